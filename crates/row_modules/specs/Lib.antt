@@ -1,2 +1,6 @@
 pub mod Modules
+pub mod Maps
+pub mod Forms
+pub mod Choices
 pub mod Bases
+pub mod Laws

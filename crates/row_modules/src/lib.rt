@@ -1,11 +1,54 @@
-//! Modules.
+//! The algebra of modules over 64-bit words: what a combination of rows is, and the laws from which later proofs cite.
+//!
+//! A set of rows generates a module: all sums of words times its rows. The set may be the rows of a list, or any other:
+//! the maps of all paths, the states of all paths. Each function here runs nothing; its contract is a law, proved for every
+//! set. `combinations` has sums, inclusions and generators, `maps` has linear and bilinear maps, and `forms` has rows as
+//! linear forms. How a module is kept, as a list of rows in echelon form, is left to the crates above.
+//!
+//! ```
+//! combinations_are_a_module::<AllRows>();
+//! ```
 #![tactic(auto)]
 
-ghost use Rattle.std.specs.Prelude.{◌≡◌, [], Contains};
-ghost use Rattle.row_modules.specs.Bases.{IsLeadingBasis, IsReduced};
-ghost use Rattle.row_modules.specs.Modules.{Generates};
+mod combinations;
+mod forms;
+mod maps;
 
-pub fn nothing()
-    ensures { IsLeadingBasis 3 [] × Generates 3 [] (Contains []) }
-{
+pub use combinations::{
+    choices_are_spanned, combinations_are_a_module, inclusions, lists_with_one_more,
+    module_is_least,
+};
+pub use forms::{dot_is_bilinear, zeros_of_forms};
+pub use maps::{images_of_modules, products_of_modules};
+
+/// A set of rows. A law with such a parameter holds of every set.
+pub trait RowSet {
+    ghost use Rattle.std.specs.Prelude.{ℕ, List};
+
+    ghost member: { List ℕ → Type 0 };
+}
+
+/// The set of all lists of numbers.
+pub struct AllRows;
+
+impl RowSet for AllRows {
+    ghost member = { λ _. Unit {0} };
+}
+
+#[cfg(test)]
+mod tests {
+    use super::*;
+
+    #[test]
+    fn laws_hold_of_one_set() {
+        combinations_are_a_module::<AllRows>();
+        module_is_least::<AllRows, AllRows>();
+        inclusions::<AllRows, AllRows, AllRows>();
+        lists_with_one_more();
+        choices_are_spanned();
+        images_of_modules::<AllRows, AllRows>();
+        products_of_modules::<AllRows, AllRows, AllRows, AllRows>();
+        dot_is_bilinear();
+        zeros_of_forms::<AllRows>();
+    }
 }

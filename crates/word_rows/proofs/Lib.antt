@@ -1,0 +1,4 @@
+pub mod Laws
+mod ByIndex
+mod Newton
+mod Zeros

@@ -1,11 +1,22 @@
-//! Rows of 64-bit words.
+//! Rows of 64-bit words, and the two facts about a word that elimination needs.
+//!
+//! A [`Row`] of N words, N from 1 to 512, is seen by contracts as the list of its words. Each call
+//! equals its plain definition: the exact sum, wrapped once modulo 2^64. No call here takes memory
+//! or refuses. What a set of rows generates, and how rows are eliminated, is left to the crates
+//! above.
+//!
+//! ```text
+//! let mut row = Row::<3>::zero().with(0, 4);
+//! row.add_scaled(2, &Row::zero().with(1, 5));
+//! row.lead() == Some(0) && row.get(1) == 10
+//! ```
 #![tactic(auto)]
 
-ghost use Rattle.std.specs.Prelude.{◌≡◌, []};
-ghost use Rattle.word_rows.specs.Rows.{dot_sum};
+mod rows;
+mod slices;
+#[cfg(test)]
+mod tests;
+mod words;
 
-pub fn nothing() -> u64
-    ensures { result ≡ dot_sum [] [] }
-{
-    0
-}
+pub use rows::Row;
+pub use words::{inverse, odd_part};

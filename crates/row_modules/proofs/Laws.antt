@@ -1,0 +1,6 @@
+-- The laws of modules that crates above cite, each with variables for all that it speaks of.
+pub use Rattle.row_modules.proofs.Closure.{zeros-plus, plus_zeros, plus_sum, combination_is_row, combination_sum, combinations, generator, module_multiple, module_least}
+pub use Rattle.row_modules.proofs.Lists.{contains_first, contains_later, first_or_later, nothing_contained, rows_with, spans_more, within_from_generators, SplitsAt, split_first, with_multiple, combination_adds_nothing}
+pub use Rattle.row_modules.proofs.Images.{image_is_module, mapped_into, image_in, image_out, image_within, products_span, products_within}
+pub use Rattle.row_modules.proofs.Zeros.{dot_at_sum, dot_at_multiple, solutions_are_module, vanishes_on_module}
+pub use Rattle.row_modules.proofs.Unknowns.{choices_span}
