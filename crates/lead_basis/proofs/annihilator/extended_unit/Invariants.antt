@@ -1,0 +1,6 @@
+use Rattle.std.proofs.Common.{◌≡◌, take}
+use Rattle.lead_basis.specs.Products.{extended, unit}
+use Rattle.lead_basis.proofs.annihilator.extended_unit.Given as goal
+
+abbrev pub invariant-loop-i : goal.invariant-loop-i
+invariant-loop-i l = l.wide ≡ extended 17 (take l.i l.rows) (unit 17 l.position)

@@ -1,0 +1,33 @@
+-- The laws of leading-position bases, each for all widths and lists.
+--
+--   Reduces n old new       new is a reduced basis, with the module of the basis old
+--   RowsGenerate            the rows of a basis generate its module
+--   FormsVanish             a form that is 0 at each row of a basis is 0 on its module
+--   NoRowsForZero           a basis has no row exactly where its module has the zero row alone
+--   OneReducedBasis         a module has one reduced basis
+use Rattle.std.specs.Prelude.{◌≡◌, ℕ, ◌↔◌, List, [], All, Contains, replicate}
+use Rattle.word_rows.specs.Rows.{dot}
+use Rattle.row_modules.specs.Modules.{IsCombination, Generates, SameModule}
+use Rattle.row_modules.specs.Bases.{IsLeadingBasis, IsReduced}
+use Rattle.row_modules.specs.Forms.{Vanishes}
+
+pub record Reduces (n : ℕ) (old new : List (List ℕ)) : Type 0 where
+  pub basis : IsLeadingBasis n new
+  pub reduced : IsReduced new
+  pub same_module : SameModule n (Contains new) (Contains old)
+
+abbrev pub RowsGenerate : Type 0
+RowsGenerate = (n : ℕ) (rows : List (List ℕ)) → IsLeadingBasis n rows → Generates n rows (IsCombination n (Contains rows))
+
+abbrev pub FormsVanish : Type 0
+FormsVanish = (n : ℕ) (rows : List (List ℕ)) (a : List ℕ) → IsLeadingBasis n rows → All (λ r. dot a r ≡ 0) rows → Vanishes a (IsCombination n (Contains rows))
+
+abbrev pub NoRowsForZero : Type 0
+NoRowsForZero =
+    (n : ℕ) (rows : List (List ℕ)) → IsLeadingBasis n rows
+    → ((rows ≡ []) ↔ ((v : List ℕ) → IsCombination n (Contains rows) v → v ≡ replicate n 0))
+
+abbrev pub OneReducedBasis : Type 0
+OneReducedBasis =
+    (n : ℕ) (rows others : List (List ℕ)) → IsLeadingBasis n rows → IsLeadingBasis n others → IsReduced rows → IsReduced others
+    → SameModule n (Contains rows) (Contains others) → rows ≡ others

@@ -1,0 +1,5 @@
+pub mod Remainders
+pub mod Inserts
+pub mod Laws
+pub mod Annihilators
+pub mod Products

@@ -1,0 +1,119 @@
+//! The type of bases.
+
+ghost use Rattle.std.specs.Prelude.{◌≡◌, ℕ, ◌<◌, ◌≤◌, ◌-◌, ◌*◌, ◌↔◌, List, [], ◌∷◌, IsTrue, Contains, IfOk, OnOk};
+ghost use Rattle.std.specs.Int.{w64, trailing_zeros};
+ghost use Rattle.word_rows.specs.Rows.{lead, pivot};
+ghost use Rattle.row_modules.specs.Bases.{IsLeadingBasis, IsReduced, basis_length, used_positions};
+ghost use Rattle.row_modules.specs.Modules.{IsCombination, IsWithin, SameModule};
+ghost use Rattle.lead_basis.specs.Inserts.{Adds};
+
+use crate::multiples::take_multiples;
+use crate::place::place;
+use crate::reduce::reduce;
+use crate::{Memory, Steps};
+use std::alloc::Global;
+use std::marker::Model;
+use std::sync::ledger::Ledger;
+use word_rows::Row;
+
+/// A leading-position basis of rows of N words, N from 1 to 512.
+#[derive(Drop)]
+pub struct Basis<const N: usize> {
+    rows: Vec<Row<N>>,
+}
+
+impl<const N: usize> Model for Basis<N> {
+    ghost use Rattle.std.specs.Prelude.{ℕ, List, ◌≤◌};
+    ghost use Rattle.row_modules.specs.Bases.{IsLeadingBasis};
+
+    ghost Value = { List (List ℕ) };
+
+    ghost view = { λ b. b.rows.items };
+
+    ghost invariant = { λ b. (1 ≤ N) × (N ≤ 512) × IsLeadingBasis N b.rows.items };
+}
+
+impl<const N: usize> Basis<N> {
+    /// The basis with no rows, which spans the zero row alone. It takes no memory.
+    pub fn new(alloc: Global) -> Basis<N>
+        requires some { 1 ≤ N }
+        requires within { N ≤ 512 }
+        ensures { result ≡ [] }
+    {
+        Basis {
+            rows: Vec::new(alloc),
+        }
+    }
+
+    /// What every basis keeps. A caller sees a basis as a list alone, so it calls this where it needs these facts.
+    pub fn known(&self)
+        ensures basis { IsLeadingBasis N self.now }
+        ensures some { 1 ≤ N }
+        ensures within { N ≤ 512 }
+    {
+        let _ = &self.rows;
+    }
+
+    /// The rows, in order of their leads.
+    pub fn rows(&self) -> &[Row<N>]
+        ensures { result.now ≡ self.now }
+    {
+        &self.rows
+    }
+
+    /// Whether a row is a combination of the rows.
+    pub fn member(&self, row: &Row<N>) -> bool
+        ensures { IsTrue result ↔ IsCombination N (Contains self.now) row.now }
+    {
+        let mut rest = *row;
+        take_multiples(&mut rest, &self.rows);
+        rest.lead().is_none()
+    }
+
+    /// Adds a row: the module becomes the old one and all multiples of the row. The answer is true exactly where the
+    /// module grew. Where memory is wanting, which never comes for a row of the module, the module lies between the two.
+    /// The counter rises by at least 1 where the module grew and by 0 where it didn't, by at least the gain in rows, and
+    /// never by more than the gain in length.
+    pub fn insert<L: Ledger>(&mut self, row: Row<N>, steps: &mut Steps<L>) -> Result<bool, Memory>
+        ensures same_module { OnOk result (SameModule N (Contains self.new) (Contains (row.entry ∷ self.old))) }
+        ensures grew { IfOk result (λ grew. IsTrue grew ↔ ¬ IsWithin N (Contains self.new) (Contains self.old)) }
+        ensures adds { Adds N self.old row.entry self.new result steps.old steps.new }
+    {
+        row.known();
+        place(&mut self.rows, 0, &row, steps)
+    }
+
+    /// The one reduced basis of the module: in the column of each pivot every earlier row has a smaller word. It takes no
+    /// memory.
+    pub fn reduced(mut self) -> Basis<N>
+        ensures same_module { SameModule N (Contains result) (Contains self.entry) }
+        ensures reduced { IsReduced result }
+        ensures unique { (rows : List (List ℕ)) → IsLeadingBasis N rows → IsReduced rows → SameModule N (Contains rows) (Contains self.entry) → rows ≡ result }
+    {
+        reduce(&mut self.rows);
+        self
+    }
+
+    /// The sum of 64 - t over the pivots 2^t: at most 64 for each position at which some row isn't 0.
+    pub fn length(&self) -> u64
+        ensures sum { result ≡ basis_length self.now }
+        ensures bound { result ≤ 64 * used_positions N self.now }
+    {
+        let mut sum = 0;
+        for row in &self.rows {
+            sum += pivot_length(row);
+        }
+        sum
+    }
+}
+
+/// 64 - t for the pivot 2^t.
+fn pivot_length<const N: usize>(row: &Row<N>) -> u64
+    ensures small { result ≤ 64 }
+    ensures length { lead row.now < N → result ≡ 64 - trailing_zeros w64 (pivot row.now) }
+{
+    match row.lead() {
+        Some(lead) => 64 - u64::from(row.get(lead).trailing_zeros()),
+        None => 0,
+    }
+}

@@ -1,0 +1,120 @@
+//! The way of a row through a basis.
+
+ghost use Rattle.std.specs.Prelude.{◌≡◌, ◌≢◌, ◌<◌, ◌≤◌, ◌%◌, ◌↔◌, length, drop, slice_index, All, HoldsAt, IsTrue, MatchResult, vec_len};
+ghost use Rattle.word_rows.specs.Rows.{lead, pivot};
+ghost use Rattle.row_modules.specs.Bases.{IsLeadingBasis};
+ghost use Rattle.lead_basis.specs.Inserts.{AddsFrom, HasLead, LacksLead};
+
+use crate::multiples::{closing, normal, take_multiple};
+use crate::{Memory, Steps};
+use std::sync::ledger::Ledger;
+use word_rows::Row;
+
+/// Whether the lead of a row is before this position.
+fn leads_before<const N: usize>(row: &Row<N>, position: usize) -> bool
+    requires { position ≤ N }
+    ensures { IsTrue result ↔ (lead row.now < position) }
+{
+    match row.lead() {
+        Some(lead) => lead < position,
+        None => false,
+    }
+}
+
+/// Looks for the row with its lead at this position, among those from `from` on: its place, or else the one for it.
+fn find_lead<const N: usize>(rows: &[Row<N>], from: usize, position: usize) -> Result<usize, usize>
+    requires from { from ≤ length rows.now }
+    requires position { position < N }
+    requires basis { IsLeadingBasis N (drop from rows.now) }
+    ensures { MatchResult result (HasLead rows.now from position) (LacksLead rows.now from position) }
+{
+    let mut at = from;
+    while at < rows.len() && leads_before(&rows[at], position) {
+        at += 1;
+    }
+    if at < rows.len() && leads_before(&rows[at], position + 1) {
+        Ok(at)
+    } else {
+        Err(at)
+    }
+}
+
+/// Adds a row to those from `from` on.
+#[cycle(place)]
+pub(crate) fn place<const N: usize, L: Ledger>(
+    rows: &mut Vec<Row<N>>,
+    from: usize,
+    row: &Row<N>,
+    steps: &mut Steps<L>,
+) -> Result<bool, Memory>
+    requires within { from ≤ vec_len rows.old }
+    requires basis { IsLeadingBasis N (drop from rows.old.items) }
+    ensures { AddsFrom N from rows.old.items row.now rows.new.items result steps.old steps.new }
+{
+    row.known();
+    let Some(lead) = row.lead() else {
+        return Ok(false);
+    };
+    match find_lead(rows, from, lead) {
+        Ok(at) => {
+            let mut rest = *row;
+            take_multiple(&mut rest, &rows[at]);
+            if rest.get(lead) == 0 {
+                place(rows, at + 1, &rest, steps)
+            } else {
+                exchange(rows, at, row, steps)
+            }
+        }
+        Err(at) => add(rows, at, row, steps),
+    }
+}
+
+/// Adds a row with a new lead, before the row at `at`.
+#[cycle(place)]
+fn add<const N: usize, L: Ledger>(
+    rows: &mut Vec<Row<N>>,
+    at: usize,
+    row: &Row<N>,
+    steps: &mut Steps<L>,
+) -> Result<bool, Memory>
+    requires within { at ≤ vec_len rows.old }
+    requires basis { IsLeadingBasis N (drop at rows.old.items) }
+    requires some { lead row.now < N }
+    requires later { All (λ r. lead row.now < lead r) (drop at rows.old.items) }
+    ensures { AddsFrom N at rows.old.items row.now rows.new.items result steps.old steps.new }
+{
+    row.known();
+    let own = normal(row);
+    place(rows, at, &closing(&own), steps)?;
+    match rows.insert(at, own) {
+        Ok(()) => {
+            steps.tick();
+            Ok(true)
+        }
+        Err(_) => Err(Memory),
+    }
+}
+
+/// Adds a row in place of the one at `at`, which has its lead and a greater pivot.
+#[cycle(place)]
+fn exchange<const N: usize, L: Ledger>(
+    rows: &mut Vec<Row<N>>,
+    at: usize,
+    row: &Row<N>,
+    steps: &mut Steps<L>,
+) -> Result<bool, Memory>
+    requires within { at < vec_len rows.old }
+    requires basis { IsLeadingBasis N (drop at rows.old.items) }
+    requires same_lead { HoldsAt (λ r. lead r ≡ lead row.now) rows.old.items at }
+    requires left_over { HoldsAt (λ r. slice_index row.now (lead row.now) % pivot r ≢ 0) rows.old.items at }
+    ensures { AddsFrom N at rows.old.items row.now rows.new.items result steps.old steps.new }
+{
+    row.known();
+    let own = normal(row);
+    let mut rest = rows[at];
+    take_multiple(&mut rest, &own);
+    place(rows, at + 1, &rest, steps)?;
+    rows[at] = own;
+    steps.tick();
+    Ok(true)
+}
