@@ -1,0 +1,8 @@
+use Rattle.affine_prog.proofs.Ends.{end_of_level_path, start_is_reached}
+use Rattle.affine_prog.proofs.laws.paths_end_at_nodes.Goals as goal
+
+pub returns : goal.returns
+returns c = record {
+  level = λ program p u m formed path. end_of_level_path program formed p u m path;
+  start = start_is_reached;
+}

@@ -1,0 +1,65 @@
+-- Matrices of 17 rows and 17 columns over words, which act on states from the left. The word at row i and column j
+-- stands at position 17 * i + j of a row of 289 words. Sums and products are whole numbers, and a matrix wraps each once.
+--
+--   entry m i j                           the word of m at row i and column j
+--   sum_below n f                         f 0 + f 1 + .. + f (n - 1)
+--   matrix f                              the matrix with f i j, wrapped, at row i and column j
+--   vector f                              the row of 17 words with f i, wrapped, at position i
+--   identity width                        1 at (i, i) for i below width and at (16, 16), else 0
+--   product after before                  the map before, and then the map after: rows of after times columns of before
+--   apply m v                             what m makes of the row v
+--   after_affine m i row                  m with row times m as its row i: the map m, and then position i becomes row . state
+--   IsAffine m                            the last row of m is 0 but for 1 at column 16
+--   Keeps m r                             row r of m is m's word at (16, 16) at column r, and 0 elsewhere
+--
+-- This project's own: the map of a callee as its caller sees it. The caller's slots are memory of the caller's activation,
+-- which the callee can't name, so they stay; every other position that isn't a register names nothing, and is 0.
+--
+--   extension registers slots m           the rows of m at the registers and at 16; the slots stay; else 0
+--   linear_extension registers slots m    the same, but the slots stay times m's word at (16, 16), so that it is linear in m
+--   with_slots one registers slots m      both of them: the slots stay times one
+use Rattle.std.specs.Prelude.{◌≡◌, ℕ, zero, suc, ◌+◌, ◌*◌, ◌/◌, ◌%◌, ◌<◌, List, map, slice_index, if◌then◌else◌, ◌==◌, ◌&&◌, ◌||◌, nat_lt}
+use Rattle.std.specs.List.{range_with_len}
+use Rattle.word_rows.specs.Words.{word}
+use Rattle.map_modules.specs.Positions.{has}
+
+abbrev pub entry : List ℕ → ℕ → ℕ → ℕ
+entry m i j = slice_index m (17 * i + j)
+
+unfoldable pub sum_below : ℕ → (ℕ → ℕ) → ℕ
+sum_below zero f = 0
+sum_below (suc n) f = sum_below n f + f n
+
+unfoldable pub matrix : (ℕ → ℕ → ℕ) → List ℕ
+matrix f = map (λ p. word (f (p / 17) (p % 17))) (range_with_len 0 289)
+
+unfoldable pub vector : (ℕ → ℕ) → List ℕ
+vector f = map (λ i. word (f i)) (range_with_len 0 17)
+
+abbrev pub identity : ℕ → List ℕ
+identity width = matrix (λ i j. if (i == j) && (nat_lt i width || (i == 16)) then 1 else 0)
+
+abbrev pub product : List ℕ → List ℕ → List ℕ
+product after before = matrix (λ i j. sum_below 17 (λ k. entry after i k * entry before k j))
+
+abbrev pub apply : List ℕ → List ℕ → List ℕ
+apply m v = vector (λ i. sum_below 17 (λ k. entry m i k * slice_index v k))
+
+abbrev pub after_affine : List ℕ → ℕ → List ℕ → List ℕ
+after_affine m i row = matrix (λ k j. if k == i then sum_below 17 (λ l. slice_index row l * entry m l j) else entry m k j)
+
+abbrev pub IsAffine : List ℕ → Type 0
+IsAffine m = (j : ℕ) → j < 17 → entry m 16 j ≡ (if j == 16 then 1 else 0)
+
+abbrev pub Keeps : List ℕ → ℕ → Type 0
+Keeps m r = (j : ℕ) → j < 17 → entry m r j ≡ (if j == r then entry m 16 16 else 0)
+
+abbrev pub with_slots : ℕ → ℕ → ℕ → List ℕ → List ℕ
+with_slots one registers slots m =
+    matrix (λ i j. if has registers i || (i == 16) then entry m i j else if has slots i && (i == j) then one else 0)
+
+abbrev pub extension : ℕ → ℕ → List ℕ → List ℕ
+extension registers slots m = with_slots 1 registers slots m
+
+abbrev pub linear_extension : ℕ → ℕ → List ℕ → List ℕ
+linear_extension registers slots m = with_slots (entry m 16 16) registers slots m
