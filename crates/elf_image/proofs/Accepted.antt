@@ -1,0 +1,89 @@
+-- What holds of a file that nothing refuses.
+use Rattle.std.proofs.Common.{◌≡◌, ℕ, ◌%◌, ◌≤◌, Bool, true, false, List, [], ◌∷◌, Option, None, Some, is_some, is_none, not, ◌||◌, ◌==◌, length, get_or, slice_get, All, AllPairs, find, refl, arith, lit<, inl, inr}
+use Rattle.std.proofs.lemmas.List.{length-map}
+use Rattle.std.proofs.lemmas.Option.{slice_get_cases}
+use Rattle.std.proofs.lemmas.Grind.{common_steps}
+use Rattle.std.proofs.lemmas.List.Elements.{All-nil, All-cons, All-map, All-filter, filter_passes}
+use Rattle.elf_image.specs.Headers.{headers_of, is_dynamic, is_bad, is_kept}
+use Rattle.elf_image.specs.Fields.{e_entry}
+use Rattle.elf_image.specs.Segments.{IsLoadable, shares_address, code_segment, kept_headers, segment_of, segments_of}
+use Rattle.elf_image.specs.Refusals.{when, at_header, first_of, header_refusal, kept_refusal, entry_refusal, shares_earlier, refusals_of, refusal_of}
+use Rattle.elf_image.specs.declared.refusal.ElfRefusal.{ElfRefusal}
+use Rattle.elf_image.specs.declared.refusal.ElfRefusal.TheVariants.{Dynamic, BadSegment, TooManySegments, Overlap, NoCode}
+use Rattle.elf_image.specs.declared.program_header.ProgramHeader.{ProgramHeader}
+use Rattle.elf_image.specs.declared.segment.Segment.{Segment}
+use Rattle.elf_image.proofs.Apart.{segments_apart}
+use Rattle.elf_image.proofs.Found.{find-none}
+
+-- where the first of some refusals is none, each is none
+first_of-none : (refusals : List (Option ElfRefusal)) → first_of refusals ≡ None → All (λ r. r ≡ None) refusals
+first_of-none [] none = All-nil _
+first_of-none (None ∷ later) none = All-cons (λ r. r ≡ None) None later refl (first_of-none later none)
+first_of-none (Some r ∷ later) none = absurd (cc)
+
+pub none_refused : (bytes : List ℕ) → refusal_of bytes ≡ None → All (λ r. r ≡ None) (refusals_of bytes)
+unfolding refusal_of
+none_refused bytes none = first_of-none (refusals_of bytes) none
+
+at_header-none : (refusal : ℕ → ElfRefusal) (found : Option ProgramHeader) → at_header refusal found ≡ None → found ≡ None
+at_header-none refusal None none = refl
+at_header-none refusal (Some h) none = absurd (cc)
+
+no_bad : (size : ℕ) (headers : List ProgramHeader) → header_refusal size headers ≡ None → find (is_bad size) headers ≡ None
+unfolding header_refusal
+no_bad size headers none =
+    let dynamic = at_header (λ place. Dynamic place) (find is_dynamic headers) in
+    let bad = at_header (λ place. BadSegment place) (find (is_bad size) headers) in
+    at_header-none (λ place. BadSegment place) _ (first_of-none (dynamic ∷ bad ∷ []) none 1 None (lit< tt))
+
+loadable : (size : ℕ) (h : ProgramHeader) → is_bad size h ≡ false → is_kept h ≡ true → IsLoadable size (segment_of h)
+loadable size h fits kept = grind (arith, common_steps)
+
+pub segments_loadable : (bytes : List ℕ) → refusal_of bytes ≡ None → All (IsLoadable (length bytes)) (segments_of bytes)
+segments_loadable bytes none =
+    let size = length bytes in
+    let headers = headers_of bytes in
+    let no_header = no_bad size headers (none_refused bytes none 3 None (lit< tt)) in
+    let fits = All-filter is_kept (λ h. is_bad size h ≡ false) headers (find-none (is_bad size) headers no_header) in
+    let kept = filter_passes is_kept headers in
+    All-map (IsLoadable size) segment_of (kept_headers bytes)
+    (λ k d within. loadable size (get_or (kept_headers bytes) k d) (fits k d within) (kept k d within))
+
+kept_rows : (kept : List ProgramHeader) → kept_refusal kept ≡ None → (slice_get kept 64 ≡ None) × (find (shares_earlier kept) kept ≡ None)
+unfolding kept_refusal
+kept_rows kept none =
+    let many = at_header (λ place. TooManySegments 64 place) (slice_get kept 64) in
+    let shared = at_header (λ place. Overlap place) (find (shares_earlier kept) kept) in
+    let rows = first_of-none (many ∷ shared ∷ []) none in (
+      at_header-none (λ place. TooManySegments 64 place) _ (rows 0 None (lit< tt)),
+      at_header-none (λ place. Overlap place) _ (rows 1 None (lit< tt)),
+    )
+
+pub segments_few : (bytes : List ℕ) → refusal_of bytes ≡ None → length (segments_of bytes) ≤ 64
+segments_few bytes none =
+    let kept = kept_headers bytes in
+    let no_more = (kept_rows kept (none_refused bytes none 4 None (lit< tt))).0 in
+    rw length-map (elim (slice_get_cases kept 64).1 as (λ _. length kept ≤ 64) [ inl there ↦ absurd (cc) | inr past ↦ past.0 ])
+
+pub segments_share_none : (bytes : List ℕ) → refusal_of bytes ≡ None → AllPairs (λ s t. shares_address s t ≡ false) (segments_of bytes)
+segments_share_none bytes none = segments_apart bytes (kept_rows (kept_headers bytes) (none_refused bytes none 4 None (lit< tt))).1
+
+when-none : (condition : Bool) (refusal : ElfRefusal) → when condition refusal ≡ None → condition ≡ false
+when-none true refusal none = absurd (cc)
+when-none false refusal none = refl
+
+no_part : {X : Type 0} (b : Bool) (o : Option X) → (not b || is_none o) ≡ false → (b ≡ true) × (is_some o ≡ true)
+no_part true None none = absurd (cc)
+no_part true (Some x) none = (refl, refl)
+no_part false o none = absurd (cc)
+
+-- the entry is a multiple of 4, and holds code
+pub entry_is_code : (segments : List Segment) (entry : ℕ) → entry_refusal segments entry ≡ None → (entry % 4 ≡ 0) × (is_some (code_segment segments entry) ≡ true)
+unfolding entry_refusal
+entry_is_code segments entry none =
+    let no_refusal = when-none (not (entry % 4 == 0) || is_none (code_segment segments entry)) (NoCode entry 24) none in
+    let both = no_part (entry % 4 == 0) (code_segment segments entry) no_refusal in
+    (grind (arith, both.0), both.1)
+
+pub entry_accepted : (bytes : List ℕ) → refusal_of bytes ≡ None → (e_entry bytes % 4 ≡ 0) × (is_some (code_segment (segments_of bytes) (e_entry bytes)) ≡ true)
+entry_accepted bytes none = entry_is_code (segments_of bytes) (e_entry bytes) (none_refused bytes none 5 None (lit< tt))

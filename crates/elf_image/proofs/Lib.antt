@@ -1,0 +1,5 @@
+pub mod Accepted
+pub mod Apart
+pub mod Found
+pub mod Held
+pub mod Laws

@@ -1,0 +1,5 @@
+pub mod Fields
+pub mod Headers
+pub mod Segments
+pub mod Refusals
+pub mod Images

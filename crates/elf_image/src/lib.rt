@@ -1,0 +1,31 @@
+//! The image of an ELF file: a static little-endian RV64 executable, read from its bytes.
+//!
+//! [`read_image`] says of any bytes the first condition that refuses them, or gives their image: the
+//! entry, the kept segments and the bytes. Every condition is one on the whole list of bytes, so no
+//! header, whatever it says, leads outside them. An image answers which byte is loaded at an address, and
+//! which code word. What the code words mean is left to others.
+//!
+//! ```text
+//! let image = read_image(alloc, &bytes)?;
+//! let first = image.code_word_at(image.entry);
+//! ```
+#![tactic(auto)]
+
+mod fields;
+mod file_header;
+mod header_table;
+mod image;
+mod kept;
+mod program_header;
+mod read;
+mod refusal;
+mod segment;
+mod symbol;
+#[cfg(test)]
+mod tests;
+
+pub use image::Image;
+pub use read::read_image;
+pub use refusal::ElfRefusal;
+pub use segment::Segment;
+pub use symbol::Symbol;

@@ -1,0 +1,4 @@
+pub mod Counts
+pub mod MemFiles
+pub mod Named
+pub mod Written

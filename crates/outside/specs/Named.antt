@@ -1,0 +1,21 @@
+-- Files in memory, each with a name. Where two have one name, the first counts.
+--
+--   is_named name file           the file has this name
+--   first_named files name       the first file with this name
+--   contents_named files name    its contents, told where there is such a file
+--   faults_named files n name    its count of faults, and n where there is no such file
+use Rattle.std.specs.Prelude.{ℕ, Bool, List, Option, find, option_map, bytes_eq, string_bytes}
+use Rattle.std.specs.Option.{option_map_or}
+use Rattle.outside.specs.declared.mem_file.MemFile.{MemFile}
+
+abbrev pub is_named : List ℕ → MemFile → Bool
+is_named name file = bytes_eq (string_bytes file.name) name
+
+abbrev pub first_named : List MemFile → List ℕ → Option MemFile
+first_named files name = find (is_named name) files
+
+abbrev pub contents_named : List MemFile → List ℕ → Option (List ℕ)
+contents_named files name = option_map (λ f. f.contents.items) (first_named files name)
+
+abbrev pub faults_named : List MemFile → ℕ → List ℕ → ℕ
+faults_named files n name = option_map_or (λ f. f.faults) (first_named files name) n

@@ -1,0 +1,27 @@
+//! What a call answers where it couldn't be done.
+
+/// A read or a put failed, and was counted as a fault.
+#[derive(Clone, Copy, Debug, PartialEq, Eq)]
+pub struct Failed;
+
+/// Want of memory.
+#[derive(Clone, Copy, Debug, PartialEq, Eq)]
+pub struct Memory;
+
+/// Why a file couldn't be read whole.
+#[derive(Clone, Copy, Debug, PartialEq, Eq)]
+pub enum ReadError {
+    /// A read failed.
+    Failed,
+    /// The file has more bytes than this limit.
+    TooLong(u64),
+    /// Want of memory.
+    Memory,
+}
+
+/// Why a text couldn't be written whole.
+#[derive(Clone, Copy, Debug, PartialEq, Eq)]
+pub enum WriteError {
+    /// A put failed.
+    Failed,
+}

@@ -1,0 +1,56 @@
+//! The system's standard output. It is trusted: no clause tells what it shows.
+ghost use Rattle.std.specs.Prelude.{◌≡◌, ◌≤◌, ℕ, List, Option, None, length, IfOk};
+
+use crate::errors::Failed;
+use crate::sink::Sink;
+use std::io;
+use std::io::Write;
+use std::marker::Model;
+
+/// Standard output, by a runtime's leave. Clauses see the count of faults.
+#[derive(Drop)]
+pub struct StdSink<R: Print + Drop> {
+    rt: R,
+    faults: u64,
+}
+
+impl<R: Print + Drop> Model for StdSink<R> {
+    ghost Value = { ℕ };
+
+    ghost view = { λ s. s.faults };
+}
+
+impl<R: Print + Drop> StdSink<R> {
+    /// No fault is counted yet.
+    pub fn new(rt: R) -> Self
+        ensures { result ≡ 0 }
+    {
+        StdSink { rt, faults: 0 }
+    }
+}
+
+/// Writes some of the bytes and flushes.
+fn write_out(rt: &impl Print, bytes: &[u8]) -> io::Result<usize>
+    ensures { IfOk result (λ n. n ≤ length bytes.now) }
+{
+    let mut out = io::writer(rt);
+    let n = out.write(bytes)?;
+    out.flush()?;
+    Ok(n)
+}
+
+impl<R: Print + Drop> Sink for StdSink<R> {
+    ghost written = { λ _. None };
+
+    ghost faults = { λ s. s };
+
+    fn put(&mut self, bytes: &[u8]) -> Result<usize, Failed> {
+        match write_out(&self.rt, bytes) {
+            Ok(n) if n > 0 => Ok(n),
+            _ => {
+                self.faults = self.faults.saturating_add(1);
+                Err(Failed)
+            }
+        }
+    }
+}

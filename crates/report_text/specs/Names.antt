@@ -1,0 +1,31 @@
+-- Tracked names, and which of them are seen in a procedure.
+--
+--   IsName name                 a register from 1 to 31, or a slot an allowed number of bytes below
+--   IsAllowedBelow n            n is a multiple of 8 from 8 to 2048
+--   IsSeenIn procedure name     name is a register, or a slot of the procedure
+--   IsSeenAt names procedure k  position k is that of a name seen in the procedure
+use Rattle.std.specs.Prelude.{◌≡◌, ℕ, ◌<◌, ◌≤◌, ◌%◌, List, slice_get, IsSomeAnd}
+use Rattle.std.proofs.Props.{props}
+use Rattle.report_text.specs.declared.names.Name.{Name}
+use Rattle.report_text.specs.declared.names.Name.TheVariants.{Register, Slot}
+
+pub record IsAllowedBelow (n : ℕ) : Type 0 where
+  pub least : 8 ≤ n
+  pub most : n ≤ 2048
+  pub multiple : n % 8 ≡ 0
+
+abbrev pub IsName : Name → Type 0
+IsName (Register r) = (1 ≤ r) × (r < 32)
+IsName (Slot p below) = IsAllowedBelow below
+
+-- it has one proof at most, so that a value can keep it
+pub IsName-prop : (name : Name) → IsProp (IsName name)
+IsName-prop (Register r) = hlevel props
+IsName-prop (Slot p below) = hlevel props
+
+abbrev pub IsSeenIn : ℕ → Name → Type 0
+IsSeenIn procedure (Register r) = Unit {0}
+IsSeenIn procedure (Slot p below) = p ≡ procedure
+
+abbrev pub IsSeenAt : List Name → ℕ → ℕ → Type 0
+IsSeenAt names procedure k = IsSomeAnd (slice_get names k) (IsSeenIn procedure)

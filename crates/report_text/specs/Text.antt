@@ -1,0 +1,96 @@
+-- The text of a report.
+--
+--   report  = "affine-report 1" nl "track " names nl proc* "end" nl
+--   names   = name ("," name)*
+--   name    = register | hex ":-" dec
+--   proc    = "proc " hex nl point+
+--   point   = "at " hex nl ( "none" nl | "unreached" nl | rel+ )
+--   rel     = "rel " lead (" " sign term)* (" " sign dec)? nl
+--   lead    = dec "*" name
+--   term    = dec "*" name
+--   sign    = "+" | "-"
+--
+--   name_text name           a register's name, or a slot's procedure and its bytes below
+--   magnitude w, sign w      a word up to 2^63 is written as itself behind `+`, a greater one as 2^64 - w behind `-`
+--   rel_text names row       the line of a relation; its constant stands at position 16
+--   text_of report           the whole text
+use Rattle.std.specs.Prelude.{ℕ, ◌-◌, ◌^◌, Bool, true, ◌&&◌, nat_le, List, [], ◌∷◌, ◌++◌, Option, Some, None, codes, slice_index, if◌then◌else◌, ◌==◌}
+use Rattle.std.specs.List.{flat_map}
+use Rattle.number_text.specs.Numerals.{dec, hex}
+use Rattle.rv_decode.specs.Registers.{name_of_register}
+use Rattle.report_text.specs.declared.names.Name.{Name}
+use Rattle.report_text.specs.declared.names.Name.TheVariants.{Register, Slot}
+use Rattle.report_text.specs.declared.points.PointRows.{PointRows}
+use Rattle.report_text.specs.declared.points.PointState.{PointState}
+use Rattle.report_text.specs.declared.points.PointState.TheVariants.{Unreached, Rows}
+use Rattle.report_text.specs.declared.reports.Report.{Report}
+
+abbrev pub nl : List ℕ
+nl = 10 ∷ []
+
+abbrev pub name_text : Name → List ℕ
+name_text (Register r) = name_of_register r
+name_text (Slot procedure below) = hex procedure ++ codes ":-" ++ dec below
+
+-- each further name behind a comma
+abbrev pub further_names_text : List Name → List ℕ
+further_names_text names = flat_map (λ name. codes "," ++ name_text name) names
+
+abbrev pub names_text : List Name → List ℕ
+names_text [] = []
+names_text (name ∷ names) = name_text name ++ further_names_text names
+
+abbrev pub magnitude : ℕ → ℕ
+magnitude w = if nat_le w (2 ^ 63) then w else 2 ^ 64 - w
+
+abbrev pub sign : ℕ → List ℕ
+sign w = if nat_le w (2 ^ 63) then codes "+" else codes "-"
+
+abbrev pub term_text : Name → ℕ → List ℕ
+term_text name w = dec (magnitude w) ++ codes "*" ++ name_text name
+
+-- a word that isn't 0 has a term, behind a sign unless it leads the row
+abbrev pub word_text : Bool → Name → ℕ → List ℕ
+word_text leads name w = if w == 0 then [] else (if leads then [] else codes " " ++ sign w) ++ term_text name w
+
+-- the terms of a row's words; leads tells whether the row's words before these are all 0
+abbrev pub terms_text : Bool → List Name → List ℕ → List ℕ
+terms_text leads [] words = []
+terms_text leads (name ∷ names) [] = []
+terms_text leads (name ∷ names) (w ∷ words) = word_text leads name w ++ terms_text (leads && w == 0) names words
+
+abbrev pub constant_text : ℕ → List ℕ
+constant_text w = if w == 0 then [] else codes " " ++ sign w ++ dec (magnitude w)
+
+abbrev pub rel_text : List Name → List ℕ → List ℕ
+rel_text names row = codes "rel " ++ terms_text true names row ++ constant_text (slice_index row 16) ++ nl
+
+abbrev pub rows_text : List Name → List (List ℕ) → List ℕ
+rows_text names [] = codes "none" ++ nl
+rows_text names (row ∷ rows) = flat_map (rel_text names) (row ∷ rows)
+
+abbrev pub state_text : List Name → PointState → List ℕ
+state_text names Unreached = codes "unreached" ++ nl
+state_text names (Rows rows) = rows_text names rows
+
+abbrev pub point_text : List Name → PointRows → List ℕ
+point_text names point = codes "at " ++ hex point.address ++ nl ++ state_text names point.state
+
+abbrev pub proc_text : ℕ → List ℕ
+proc_text procedure = codes "proc " ++ hex procedure ++ nl
+
+-- the line of a point's procedure, unless it is that of the point before
+abbrev pub opening_text : Option ℕ → ℕ → List ℕ
+opening_text None procedure = proc_text procedure
+opening_text (Some before) procedure = if before == procedure then [] else proc_text procedure
+
+-- the points, each procedure's line before its first point; before is the procedure of the point before them
+abbrev pub points_text : List Name → Option ℕ → List PointRows → List ℕ
+points_text names before [] = []
+points_text names before (point ∷ points) =
+    opening_text before point.proc_entry ++ point_text names point ++ points_text names (Some point.proc_entry) points
+
+abbrev pub text_of : Report → List ℕ
+text_of report =
+    codes "affine-report 1" ++ nl ++ codes "track " ++ names_text report.tracked.names ++ nl
+    ++ points_text report.tracked.names None report.points ++ codes "end" ++ nl

@@ -1,0 +1,195 @@
+//! The writer of reports. Each function appends one part of the text.
+
+ghost use Rattle.std.specs.Prelude.{◌≡◌, ◌≤◌, ◌++◌, length, All, true, IfOk, OnOk, codes};
+ghost use Rattle.number_text.specs.Numerals.{hex};
+ghost use Rattle.report_text.specs.Names.{IsName};
+ghost use Rattle.report_text.specs.Text.{nl, name_text, names_text, further_names_text, sign, magnitude, term_text, word_text, terms_text, constant_text, rel_text, rows_text, point_text, points_text, text_of};
+
+use crate::names::Name;
+use crate::points::{PointRows, PointState};
+use crate::reports::Report;
+use number_text::{push_dec, push_hex};
+use rv_decode::register_name;
+use std::alloc::{AllocError, Global};
+use word_rows::Row;
+
+/// The text of a report, as the report's page of the documentation gives it.
+pub fn write_report(alloc: Global, report: &Report) -> Result<Vec<u8>, AllocError>
+    ensures { IfOk result (λ text. text.items ≡ text_of report.now) }
+{
+    let names = report.tracked.names.as_slice();
+    let mut text = Vec::new(alloc);
+    text.extend_from_slice(b"affine-report 1\ntrack ")?;
+    push_names(&mut text, names)?;
+    text.extend_from_slice(b"\n")?;
+    push_points(&mut text, names, report.points.as_slice())?;
+    text.extend_from_slice(b"end\n")?;
+    Ok(text)
+}
+
+fn push_names(text: &mut Vec<u8>, names: &[Name]) -> Result<(), AllocError>
+    requires { All IsName names.now }
+    ensures { OnOk result (text.new.items ≡ text.old.items ++ names_text names.now) }
+{
+    match names {
+        [] => Ok(()),
+        [first, further @ ..] => {
+            push_name(text, *first)?;
+            push_further_names(text, further)
+        }
+    }
+}
+
+fn push_further_names(text: &mut Vec<u8>, names: &[Name]) -> Result<(), AllocError>
+    requires { All IsName names.now }
+    ensures { OnOk result (text.new.items ≡ text.old.items ++ further_names_text names.now) }
+{
+    for name in names {
+        text.extend_from_slice(b",")?;
+        push_name(text, *name)?;
+    }
+    Ok(())
+}
+
+fn push_name(text: &mut Vec<u8>, name: Name) -> Result<(), AllocError>
+    requires { IsName name }
+    ensures { OnOk result (text.new.items ≡ text.old.items ++ name_text name) }
+{
+    match name {
+        Name::Register(r) => text.extend_from_slice(register_name(r).as_bytes()),
+        Name::Slot { proc_entry, below } => {
+            push_hex(text, proc_entry)?;
+            text.extend_from_slice(b":-")?;
+            push_dec(text, u64::from(below))
+        }
+    }
+}
+
+fn push_points(text: &mut Vec<u8>, names: &[Name], points: &[PointRows]) -> Result<(), AllocError>
+    requires names { All IsName names.now }
+    requires few { length names.now ≤ 16 }
+    ensures { OnOk result (text.new.items ≡ text.old.items ++ points_text names.now None points.now) }
+{
+    let mut before = None;
+    for point in points {
+        if before != Some(point.proc_entry) {
+            push_line(text, b"proc ", point.proc_entry)?;
+        }
+        push_point(text, names, point)?;
+        before = Some(point.proc_entry);
+    }
+    Ok(())
+}
+
+fn push_point(text: &mut Vec<u8>, names: &[Name], point: &PointRows) -> Result<(), AllocError>
+    requires names { All IsName names.now }
+    requires few { length names.now ≤ 16 }
+    ensures { OnOk result (text.new.items ≡ text.old.items ++ point_text names.now point.now) }
+{
+    push_line(text, b"at ", point.address)?;
+    match &point.state {
+        PointState::Unreached => text.extend_from_slice(b"unreached\n"),
+        PointState::Rows(rows) => push_rows(text, names, rows.as_slice()),
+    }
+}
+
+fn push_line(text: &mut Vec<u8>, word: &[u8], address: u64) -> Result<(), AllocError>
+    ensures { OnOk result (text.new.items ≡ text.old.items ++ (word.now ++ hex address ++ nl)) }
+{
+    text.extend_from_slice(word)?;
+    push_hex(text, address)?;
+    text.extend_from_slice(b"\n")
+}
+
+fn push_rows(text: &mut Vec<u8>, names: &[Name], rows: &[Row<17>]) -> Result<(), AllocError>
+    requires names { All IsName names.now }
+    requires few { length names.now ≤ 16 }
+    ensures { OnOk result (text.new.items ≡ text.old.items ++ rows_text names.now rows.now) }
+{
+    if rows.is_empty() {
+        return text.extend_from_slice(b"none\n");
+    }
+    for row in rows {
+        push_rel(text, names, row)?;
+    }
+    Ok(())
+}
+
+fn push_rel(text: &mut Vec<u8>, names: &[Name], row: &Row<17>) -> Result<(), AllocError>
+    requires names { All IsName names.now }
+    requires few { length names.now ≤ 16 }
+    ensures { OnOk result (text.new.items ≡ text.old.items ++ rel_text names.now row.now) }
+{
+    text.extend_from_slice(b"rel ")?;
+    push_terms(text, names, row)?;
+    push_constant(text, row.get(16))?;
+    text.extend_from_slice(b"\n")
+}
+
+fn push_terms(text: &mut Vec<u8>, names: &[Name], row: &Row<17>) -> Result<(), AllocError>
+    requires names { All IsName names.now }
+    requires few { length names.now ≤ 16 }
+    ensures { OnOk result (text.new.items ≡ text.old.items ++ terms_text true names.now row.now) }
+{
+    let mut leads = true;
+    for (i, name) in names.iter().enumerate() {
+        let word = row.get(i);
+        push_word(text, leads, *name, word)?;
+        leads &= word == 0;
+    }
+    Ok(())
+}
+
+// The term of a word that isn't 0, behind its sign unless it leads the row.
+fn push_word(text: &mut Vec<u8>, leads: bool, name: Name, word: u64) -> Result<(), AllocError>
+    requires { IsName name }
+    ensures { OnOk result (text.new.items ≡ text.old.items ++ word_text leads name word) }
+{
+    if word == 0 {
+        return Ok(());
+    }
+    if !leads {
+        push_sign(text, word)?;
+    }
+    push_term(text, name, word)
+}
+
+fn push_constant(text: &mut Vec<u8>, word: u64) -> Result<(), AllocError>
+    ensures { OnOk result (text.new.items ≡ text.old.items ++ constant_text word) }
+{
+    if word == 0 {
+        return Ok(());
+    }
+    push_sign(text, word)?;
+    push_dec(text, magnitude_of(word))
+}
+
+fn push_term(text: &mut Vec<u8>, name: Name, word: u64) -> Result<(), AllocError>
+    requires { IsName name }
+    ensures { OnOk result (text.new.items ≡ text.old.items ++ term_text name word) }
+{
+    push_dec(text, magnitude_of(word))?;
+    text.extend_from_slice(b"*")?;
+    push_name(text, name)
+}
+
+// A space and the sign of a word.
+fn push_sign(text: &mut Vec<u8>, word: u64) -> Result<(), AllocError>
+    ensures { OnOk result (text.new.items ≡ text.old.items ++ (codes " " ++ sign word)) }
+{
+    if word <= 1 << 63 {
+        text.extend_from_slice(b" +")
+    } else {
+        text.extend_from_slice(b" -")
+    }
+}
+
+fn magnitude_of(word: u64) -> u64
+    ensures { result ≡ magnitude word }
+{
+    if word <= 1 << 63 {
+        word
+    } else {
+        u64::MAX - (word - 1)
+    }
+}
