@@ -1,0 +1,12 @@
+mod StraightCode
+mod StraightLaws
+mod NamesInOrder
+mod RegistersNamed
+mod VisibleBits
+mod StatesPushed
+mod PointsTold
+mod RelationsTold
+mod OverImages
+mod RepliesGiven
+mod TooLong
+mod NoFault

@@ -1,0 +1,55 @@
+-- What the analysis of a file's bytes and a list of names is.
+--
+--   most_bytes                    no file may have more bytes
+--   HasColon list                 the list has an item with a colon
+--   IsImageOf bytes image         the bytes are accepted, and this is their image
+--   WithImage bytes P             so they are, and P holds of their image
+--   IsCodeOf image code           the code of the image from its entry on is straight, and this is it
+--   IsNotYet list image a         the analysis of these isn't there yet, at the address a
+--   IsAnalysed list image report  the list names registers, and the report is that of the image's code
+--   IsListed image text           the text is the list of the image's code
+use Rattle.std.specs.Prelude.{◌≡◌, ℕ, ◌^◌, List, Contains}
+use Rattle.word_rows.specs.Words.{word}
+use Rattle.elf_image.specs.declared.image.Image.{Image}
+use Rattle.elf_image.specs.Images.{code_word}
+use Rattle.report_text.specs.declared.reports.Report.{Report}
+use Rattle.analyser_main.specs.declared.lines.Line.{Line}
+use Rattle.analyser_main.specs.Code.{IsStraight, StopsAt}
+use Rattle.analyser_main.specs.Lists.{IsTracked}
+use Rattle.analyser_main.specs.Listing.{list_text}
+use Rattle.analyser_main.specs.Reports.{IsReportOf}
+
+abbrev pub most_bytes : ℕ
+most_bytes = 2 ^ 24
+
+abbrev pub HasColon : List ℕ → Type 0
+HasColon list = Contains list 58
+
+-- each image keeps that its file is accepted, and that it is the file's
+abbrev pub IsImageOf : List ℕ → Image → Type 0
+IsImageOf bytes image = image.file ≡ bytes
+
+abbrev pub WithImage : List ℕ → (Image → Type 0) → Type 0
+WithImage bytes P = (image : Image) × IsImageOf bytes image × P image
+
+abbrev pub IsCodeOf : Image → List Line → Type 0
+IsCodeOf image code = IsStraight (code_word image) image.entry code
+
+abbrev pub CodeStopsAt : Image → ℕ → Type 0
+CodeStopsAt image a = (stop : ℕ) × StopsAt (code_word image) image.entry stop × (a ≡ word stop)
+
+pub data IsNotYet (list : List ℕ) (image : Image) : ℕ → Type 0 where
+  names_a_slot : (a : ℕ) → HasColon list → a ≡ 0 → IsNotYet list image a
+  not_straight : (a : ℕ) → (HasColon list → ⊥) → CodeStopsAt image a → IsNotYet list image a
+
+pub record IsAnalysed (list : List ℕ) (image : Image) (report : Report) : Type 0 where
+  pub registers : List ℕ
+  pub code : List Line
+  pub tracked : IsTracked list registers
+  pub is_code : IsCodeOf image code
+  pub is_report : IsReportOf registers image.entry code report
+
+pub record IsListed (image : Image) (text : List ℕ) : Type 0 where
+  pub code : List Line
+  pub is_code : IsCodeOf image code
+  pub text_is : text ≡ list_text image.entry code

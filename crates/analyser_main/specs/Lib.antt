@@ -1,0 +1,14 @@
+pub mod Code
+pub mod Lists
+pub mod Refusals
+pub mod Effects
+pub mod States
+pub mod Reports
+pub mod Steps
+pub mod Listing
+pub mod Orders
+pub mod OrdersGiven
+pub mod Analysed
+pub mod Lines
+pub mod Answers
+pub mod Replies

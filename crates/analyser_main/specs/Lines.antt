@@ -1,0 +1,63 @@
+-- The lines of refusals.
+--
+--   at_offset text n      the line of a refusal at an offset
+--   valued name value     a refusal's name with its value
+--   refused text          the line of any other refusal
+--   elf_line refusal      the line of what an image is refused for
+--   track_line refusal    the line of what a list is refused for
+--   too_long_line, not_yet_line a
+--   IsLineOf refusal text the text is the refusal's line; want of memory has none
+use Rattle.std.specs.Prelude.{◌≡◌, ℕ, List, [], ◌++◌, codes}
+use Rattle.number_text.specs.Numerals.{dec, hex}
+use Rattle.report_text.specs.Text.{nl}
+use Rattle.elf_image.specs.declared.refusal.ElfRefusal.{ElfRefusal}
+use Rattle.elf_image.specs.declared.refusal.ElfRefusal.TheVariants.{Short, NotElf, NotClass64, NotLittle, NotExec, NotRiscv, Rve, Compressed, BadHeaderTable, Dynamic, BadSegment, TooManySegments, Overlap, NoCode, Memory}
+use Rattle.analyser_main.specs.declared.refusals.Refusal as refusals
+use Rattle.analyser_main.specs.declared.refusals.Refusal.{Refusal}
+use Rattle.analyser_main.specs.declared.refusals.TrackRefusal.{TrackRefusal}
+use Rattle.analyser_main.specs.declared.refusals.TrackRefusal.TheVariants.{Empty, TooMany, UnknownName, Repeated}
+
+abbrev pub at_offset : List ℕ → ℕ → List ℕ
+at_offset text offset = codes "refused " ++ text ++ codes " at offset " ++ dec offset ++ nl
+
+abbrev pub valued : List ℕ → List ℕ → List ℕ
+valued name value = name ++ codes " " ++ value
+
+-- an image is never refused for want of memory
+abbrev pub elf_line : ElfRefusal → List ℕ
+elf_line (Short n offset) = at_offset (valued (codes "Short") (dec n)) offset
+elf_line (NotElf offset) = at_offset (codes "NotElf") offset
+elf_line (NotClass64 byte offset) = at_offset (valued (codes "NotClass64") (dec byte)) offset
+elf_line (NotLittle byte offset) = at_offset (valued (codes "NotLittle") (dec byte)) offset
+elf_line (NotExec e_type offset) = at_offset (valued (codes "NotExec") (dec e_type)) offset
+elf_line (NotRiscv e_machine offset) = at_offset (valued (codes "NotRiscv") (dec e_machine)) offset
+elf_line (Rve offset) = at_offset (codes "Rve") offset
+elf_line (Compressed offset) = at_offset (codes "Compressed") offset
+elf_line (BadHeaderTable offset) = at_offset (codes "BadHeaderTable") offset
+elf_line (Dynamic offset) = at_offset (codes "Dynamic") offset
+elf_line (BadSegment offset) = at_offset (codes "BadSegment") offset
+elf_line (TooManySegments limit offset) = at_offset (valued (codes "TooManySegments") (dec limit)) offset
+elf_line (Overlap offset) = at_offset (codes "Overlap") offset
+elf_line (NoCode entry offset) = at_offset (valued (codes "NoCode") (hex entry)) offset
+elf_line Memory = []
+
+abbrev pub refused : List ℕ → List ℕ
+refused text = codes "refused " ++ text ++ nl
+
+abbrev pub track_line : TrackRefusal → List ℕ
+track_line Empty = refused (codes "Empty")
+track_line (TooMany limit) = refused (valued (codes "TooMany") (dec limit))
+track_line (UnknownName place) = refused (valued (codes "UnknownName") (dec place))
+track_line (Repeated place) = refused (valued (codes "Repeated") (dec place))
+
+abbrev pub too_long_line : List ℕ
+too_long_line = refused (codes "TooLong 16777216")
+
+abbrev pub not_yet_line : ℕ → List ℕ
+not_yet_line a = refused (codes "NotYet at " ++ hex a)
+
+abbrev pub IsLineOf : Refusal → List ℕ → Type 0
+IsLineOf (refusals.TheVariants.Elf refusal) text = text ≡ elf_line refusal
+IsLineOf (refusals.TheVariants.NotYet a) text = text ≡ not_yet_line a
+IsLineOf (refusals.TheVariants.Track refusal) text = text ≡ track_line refusal
+IsLineOf refusals.TheVariants.Memory text = ⊥

@@ -1,0 +1,136 @@
+//! The lines of refusals.
+
+ghost use Rattle.std.specs.Prelude.{◌≡◌, IfOk};
+ghost use Rattle.number_text.specs.Numerals.{dec, hex};
+ghost use Rattle.elf_image.specs.declared.refusal.ElfRefusal.TheVariants.{NoCode};
+ghost use Rattle.analyser_main.specs.Lines.{at_offset, valued, elf_line, refused, track_line, too_long_line, not_yet_line, IsLineOf};
+
+use crate::refusals::{Refusal, TrackRefusal};
+use elf_image::ElfRefusal;
+use number_text::{push_dec, push_hex};
+use std::alloc::{AllocError, Global};
+
+/// The line of a refusal.
+pub fn refusal_line(alloc: Global, refusal: Refusal) -> Result<Vec<u8>, AllocError>
+    ensures { IfOk result (λ line. IsLineOf refusal line.items) }
+{
+    match refusal {
+        Refusal::Elf(refusal) => elf_line(alloc, refusal),
+        Refusal::NotYet(address) => not_yet_line(alloc, address),
+        Refusal::Track(refusal) => track_line(alloc, refusal),
+        Refusal::Memory => Err(AllocError),
+    }
+}
+
+/// The line for a file with too many bytes.
+pub fn too_long_line(alloc: Global) -> Result<Vec<u8>, AllocError>
+    ensures { IfOk result (λ line. line.items ≡ too_long_line) }
+{
+    Vec::from_slice(alloc, b"refused TooLong 16777216\n")
+}
+
+fn not_yet_line(alloc: Global, address: u64) -> Result<Vec<u8>, AllocError>
+    ensures { IfOk result (λ line. line.items ≡ not_yet_line address) }
+{
+    let mut line = Vec::from_slice(alloc, b"refused NotYet at ")?;
+    push_hex(&mut line, address)?;
+    line.extend_from_slice(b"\n")?;
+    Ok(line)
+}
+
+fn track_line(alloc: Global, refusal: TrackRefusal) -> Result<Vec<u8>, AllocError>
+    ensures { IfOk result (λ line. line.items ≡ track_line refusal) }
+{
+    match refusal {
+        TrackRefusal::Empty => Vec::from_slice(alloc, b"refused Empty\n"),
+        TrackRefusal::TooMany(limit) => list_line(alloc, b"TooMany", u64::from(limit)),
+        TrackRefusal::UnknownName(place) => list_line(alloc, b"UnknownName", place),
+        TrackRefusal::Repeated(place) => list_line(alloc, b"Repeated", place),
+    }
+}
+
+fn list_line(alloc: Global, name: &[u8], value: u64) -> Result<Vec<u8>, AllocError>
+    ensures { IfOk result (λ line. line.items ≡ refused (valued name.now (dec value))) }
+{
+    let mut line = Vec::from_slice(alloc, b"refused ")?;
+    line.extend_from_slice(name)?;
+    line.extend_from_slice(b" ")?;
+    push_dec(&mut line, value)?;
+    line.extend_from_slice(b"\n")?;
+    Ok(line)
+}
+
+fn elf_line(alloc: Global, refusal: ElfRefusal) -> Result<Vec<u8>, AllocError>
+    ensures { IfOk result (λ line. line.items ≡ elf_line refusal) }
+{
+    match refusal {
+        ElfRefusal::Short { length, offset } => valued_line(alloc, b"Short", length, offset),
+        ElfRefusal::NotElf { offset } => plain_line(alloc, b"NotElf", offset),
+        ElfRefusal::NotClass64 { byte, offset } => valued_line(
+            alloc,
+            b"NotClass64",
+            u64::from(byte),
+            offset,
+        ),
+        ElfRefusal::NotLittle { byte, offset } => valued_line(
+            alloc,
+            b"NotLittle",
+            u64::from(byte),
+            offset,
+        ),
+        ElfRefusal::NotExec { e_type, offset } => valued_line(
+            alloc,
+            b"NotExec",
+            u64::from(e_type),
+            offset,
+        ),
+        ElfRefusal::NotRiscv { e_machine, offset } => valued_line(
+            alloc,
+            b"NotRiscv",
+            u64::from(e_machine),
+            offset,
+        ),
+        ElfRefusal::Rve { offset } => plain_line(alloc, b"Rve", offset),
+        ElfRefusal::Compressed { offset } => plain_line(alloc, b"Compressed", offset),
+        ElfRefusal::BadHeaderTable { offset } => plain_line(alloc, b"BadHeaderTable", offset),
+        ElfRefusal::Dynamic { offset } => plain_line(alloc, b"Dynamic", offset),
+        ElfRefusal::BadSegment { offset } => plain_line(alloc, b"BadSegment", offset),
+        ElfRefusal::TooManySegments { limit, offset } => valued_line(
+            alloc,
+            b"TooManySegments",
+            u64::from(limit),
+            offset,
+        ),
+        ElfRefusal::Overlap { offset } => plain_line(alloc, b"Overlap", offset),
+        ElfRefusal::NoCode { entry, offset } => no_code_line(alloc, entry, offset),
+        ElfRefusal::Memory => Err(AllocError),
+    }
+}
+
+fn plain_line(alloc: Global, name: &[u8], offset: u64) -> Result<Vec<u8>, AllocError>
+    ensures { IfOk result (λ line. line.items ≡ at_offset name.now offset) }
+{
+    let mut line = Vec::from_slice(alloc, b"refused ")?;
+    line.extend_from_slice(name)?;
+    line.extend_from_slice(b" at offset ")?;
+    push_dec(&mut line, offset)?;
+    line.extend_from_slice(b"\n")?;
+    Ok(line)
+}
+
+fn valued_line(alloc: Global, name: &[u8], value: u64, offset: u64) -> Result<Vec<u8>, AllocError>
+    ensures { IfOk result (λ line. line.items ≡ at_offset (valued name.now (dec value)) offset) }
+{
+    let mut text = Vec::from_slice(alloc, name)?;
+    text.extend_from_slice(b" ")?;
+    push_dec(&mut text, value)?;
+    plain_line(alloc, &text, offset)
+}
+
+fn no_code_line(alloc: Global, entry: u64, offset: u64) -> Result<Vec<u8>, AllocError>
+    ensures { IfOk result (λ line. line.items ≡ elf_line (NoCode entry offset)) }
+{
+    let mut text = Vec::from_slice(alloc, b"NoCode ")?;
+    push_hex(&mut text, entry)?;
+    plain_line(alloc, &text, offset)
+}

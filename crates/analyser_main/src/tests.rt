@@ -1,0 +1,306 @@
+//! Whole orders over files and sinks in memory, and over those of the system.
+
+ghost use Rattle.std.specs.Prelude.{◌≢◌, ◌≤◌};
+
+use crate::affine::affine_main;
+use outside::{CleanFiles, CleanSink, DiskFiles, Files, MemFile, MemFiles, MemSink, StdSink};
+use std::alloc::{AllocError, Global};
+use std::test::Fail;
+use std::{env, fs, process};
+
+/// Over files and a sink that never fail, no answer is a fault.
+fn affine_cleanly(
+    alloc: Global,
+    words: &[String],
+    files: &mut CleanFiles,
+    out: &mut CleanSink,
+) -> u8
+    ensures no_read_fault { result ≢ 3 }
+    ensures no_write_fault { result ≢ 4 }
+{
+    affine_main(alloc, words, files, out)
+}
+
+// The small file with these code words.
+fn small_file(alloc: Global, words: &[u32]) -> Result<Vec<u8>, AllocError> {
+    let size = (words.len() as u64).wrapping_mul(4).wrapping_add(120);
+    let mut bytes = Vec::new(alloc);
+    bytes.extend_from_slice(&[0x7f, 0x45, 0x4c, 0x46, 2, 1, 1, 0, 0, 0, 0, 0, 0, 0, 0, 0])?;
+    bytes.extend_from_slice(&[2, 0, 243, 0, 1, 0, 0, 0])?;
+    for field in [0x10078, 64, 0] {
+        bytes.extend_from_slice(&u64::to_le_bytes(field))?;
+    }
+    bytes.extend_from_slice(&[0, 0, 0, 0, 64, 0, 56, 0, 1, 0, 0, 0, 0, 0, 0, 0])?;
+    bytes.extend_from_slice(&[1, 0, 0, 0, 5, 0, 0, 0])?;
+    for field in [0, 0x10000, 0x10000, size, size, 0x1000] {
+        bytes.extend_from_slice(&u64::to_le_bytes(field))?;
+    }
+    for word in words {
+        bytes.extend_from_slice(&word.to_le_bytes())?;
+    }
+    Ok(bytes)
+}
+
+fn words_of(alloc: Global, order: &str) -> Result<Vec<String>, AllocError> {
+    let mut words = Vec::new(alloc);
+    for word in order.split(' ') {
+        words.push(String::from_str(alloc, word)?)?;
+    }
+    Ok(words)
+}
+
+// Files in memory: one file `f` with these bytes, read in pieces, whose call `fails` fails.
+fn one_file(alloc: Global, bytes: Vec<u8>, piece: usize, fails: u64) -> Result<MemFiles, AllocError>
+    requires { 1 ≤ piece }
+{
+    let name = String::from_str(alloc, "f")?;
+    let file = MemFile {
+        name,
+        contents: bytes,
+        faults: 0,
+    };
+    Ok(MemFiles {
+        files: vec![in alloc; file]?,
+        piece,
+        fails: vec![in alloc; fails]?,
+        calls: 0,
+        faults: 0,
+    })
+}
+
+const REPORT: &str =
+    "affine-report 1\ntrack a0\nproc 0x10078\nat 0x10078\nnone\nat 0x1007c\nrel 1*a0 -5\nend\n";
+
+const LIST: &str =
+    "affine-list 1\nproc 0x10078\n0x10078 00500513 addi a0,zero,5\n0x1007c 00100073 ebreak\nend\n";
+
+const USAGE: &str = "usage:\nanalyse FILE --track LIST\nlist FILE\n";
+
+const EBREAK: u32 = 0x00100073;
+
+// The status and the text of an order over the file `f` with these bytes, read in pieces.
+fn answer_to(
+    alloc: Global,
+    order: &str,
+    bytes: Vec<u8>,
+    piece: usize,
+) -> Result<(u8, Vec<u8>), Fail>
+    requires { 1 ≤ piece }
+{
+    let words = words_of(alloc, order)?;
+    let mut files = one_file(alloc, bytes, piece, 0)?;
+    let mut out = MemSink::with_capacity(alloc, 1000, piece, Vec::new(alloc))
+        .ok()
+        .ok_or("memory")?;
+    let status = affine_main(alloc, &words, &mut files, &mut out);
+    Ok((status, out.written))
+}
+
+#[test]
+fn relations_of_straight_code(rt: HostRuntime) -> Result<(), Fail> {
+    let alloc = rt.alloc();
+    let triple: &[u32] = &[0x00151593, 0x00A585B3, EBREAK];
+    // The list, the code, and what stands under the line of each point.
+    let cases: [(&str, &[u32], &[&str]); 11] = [
+        ("a0", &[EBREAK], &["none"]),
+        ("a0", &[0x00500513, EBREAK], &["none", "rel 1*a0 -5"]),
+        (
+            "a0,a1",
+            triple,
+            &[
+                "none",
+                "rel 2*a0 +9223372036854775807*a1\nrel 9223372036854775808*a1",
+                "rel 1*a0 +6148914691236517205*a1",
+            ],
+        ),
+        (
+            "a1,a0",
+            triple,
+            &["none", "rel 1*a1 -2*a0", "rel 1*a1 -3*a0"],
+        ),
+        ("a0", &[0x03F51513, EBREAK], &["none", "rel 2*a0"]),
+        (
+            "a0,a1",
+            &[0xFFF54593, EBREAK],
+            &["none", "rel 1*a0 +1*a1 +1"],
+        ),
+        ("a0,a1", &[0x00154593, EBREAK], &["none", "none"]),
+        (
+            "a0",
+            &[0x80000537, EBREAK],
+            &["none", "rel 1*a0 +2147483648"],
+        ),
+        ("a0", &[0x00001517, EBREAK], &["none", "rel 1*a0 -69752"]),
+        (
+            "a0,a1,a2",
+            &[0x40A58633, EBREAK],
+            &["none", "rel 1*a0 -1*a1 +1*a2"],
+        ),
+        (
+            "a0,a1",
+            &[0x00100513, 0x00000073, EBREAK],
+            &["none", "rel 1*a0 -1", "none"],
+        ),
+    ];
+    for (list, code, points) in cases {
+        let mut words = words_of(alloc, "analyse f --track")?;
+        words.push(String::from_str(alloc, list)?)?;
+        let mut files = one_file(alloc, small_file(alloc, code)?, 4096, 0)?;
+        let mut out = MemSink::with_capacity(alloc, 1000, 1000, Vec::new(alloc))
+            .ok()
+            .ok_or("memory")?;
+        assert_eq!(rt; affine_main(alloc, &words, &mut files, &mut out), 0);
+        let report = report_with(alloc, list, points)?;
+        assert_eq!(rt; out.written.as_slice(), report.as_slice());
+    }
+    Ok(())
+}
+
+// The report of a small file, by what stands under the line of each point.
+fn report_with(alloc: Global, list: &str, points: &[&str]) -> Result<Vec<u8>, AllocError> {
+    let mut report = Vec::from_slice(alloc, b"affine-report 1\ntrack ")?;
+    report.extend_from_slice(list.as_bytes())?;
+    report.extend_from_slice(b"\nproc 0x10078\n")?;
+    for (address, point) in ["0x10078", "0x1007c", "0x10080"].iter().zip(points) {
+        for text in ["at ", address, "\n", point, "\n"] {
+            report.extend_from_slice(text.as_bytes())?;
+        }
+    }
+    report.extend_from_slice(b"end\n")?;
+    Ok(report)
+}
+
+#[test]
+fn orders_get_their_texts(rt: HostRuntime) -> Result<(), Fail> {
+    let alloc = rt.alloc();
+    let cases: [(&str, usize, u8, &str); 21] = [
+        ("analyse f --track x10", 128, 0, REPORT),
+        ("list f", 128, 0, LIST),
+        ("analyse f --track ", 128, 1, "refused Empty\n"),
+        (
+            "analyse f --track a0,a1,a2,a3,a4,a5,a6,a7,s0,s1,s2,s3,s4,s5,s6,s7,s8",
+            128,
+            1,
+            "refused TooMany 16\n",
+        ),
+        ("analyse f --track s0,fp", 128, 1, "refused Repeated 2\n"),
+        ("analyse f --track zero", 128, 1, "refused UnknownName 1\n"),
+        (
+            "analyse f --track a0,,a1",
+            128,
+            1,
+            "refused UnknownName 2\n",
+        ),
+        ("analyse f --track ,", 128, 1, "refused UnknownName 1\n"),
+        (
+            "analyse f --track 0x10078:-8",
+            128,
+            1,
+            "refused NotYet at 0x0\n",
+        ),
+        (
+            "analyse f --track a0",
+            63,
+            1,
+            "refused Short 63 at offset 63\n",
+        ),
+        ("list f", 0, 1, "refused Short 0 at offset 0\n"),
+        ("list f", 64, 1, "refused BadHeaderTable at offset 32\n"),
+        ("list f", 127, 1, "refused BadSegment at offset 64\n"),
+        ("list g", 128, 3, "read fault\n"),
+        ("analyse g --track a0", 128, 3, "read fault\n"),
+        ("frob", 128, 2, USAGE),
+        ("list", 128, 2, USAGE),
+        ("list -f", 128, 2, USAGE),
+        ("list f f", 128, 2, USAGE),
+        ("analyse f --track", 128, 2, USAGE),
+        ("analyse f --track -a0", 128, 2, USAGE),
+    ];
+    for (order, length, status, text) in cases {
+        for piece in [1, 64, 4096] {
+            let mut bytes = small_file(alloc, &[0x00500513, EBREAK])?;
+            bytes.truncate(length);
+            let (answer, written) = answer_to(alloc, order, bytes, piece)?;
+            assert_eq!(rt; answer, status, "{order}");
+            assert_eq!(rt; written.as_slice(), text.as_bytes(), "{order}");
+        }
+    }
+    // Code that isn't straight.
+    for (code, text) in [
+        ([0x00000513, 0x0080006F], "refused NotYet at 0x1007c\n"),
+        ([0x00000513, 0x00000513], "refused NotYet at 0x10080\n"),
+        ([0, EBREAK], "refused NotYet at 0x10078\n"),
+    ] {
+        for order in ["list f", "analyse f --track a0"] {
+            let (status, written) = answer_to(alloc, order, small_file(alloc, &code)?, 4096)?;
+            assert_eq!(rt; status, 1);
+            assert_eq!(rt; written.as_slice(), text.as_bytes());
+        }
+    }
+    Ok(())
+}
+
+#[test]
+fn faults_have_their_status(rt: HostRuntime) -> Result<(), Fail> {
+    let alloc = rt.alloc();
+    let words = words_of(alloc, "analyse f --track a0")?;
+    // The call of read that fails, the call of put that fails, the status and what is written.
+    let cases = [
+        (1, 0, 3, "read fault\n"),
+        (0, 2, 4, "affine-rep"),
+        (2, 1, 4, ""),
+        (0, 0, 0, REPORT),
+    ];
+    for (read, put, status, text) in cases {
+        let bytes = small_file(alloc, &[0x00500513, 0x00100073])?;
+        let mut files = one_file(alloc, bytes, 64, read)?;
+        let mut out = MemSink::with_capacity(alloc, 1000, 10, vec![in alloc; put]?)
+            .ok()
+            .ok_or("memory")?;
+        assert_eq!(rt; affine_main(alloc, &words, &mut files, &mut out), status);
+        assert_eq!(rt; out.written.as_slice(), text.as_bytes());
+    }
+    // A file with a byte too many, and no words at all.
+    let mut files = one_file(alloc, vec![in alloc; 0; (1 << 24) + 1]?, 1 << 20, 0)?;
+    let mut out = MemSink::with_capacity(alloc, 1000, 1000, Vec::new(alloc))
+        .ok()
+        .ok_or("memory")?;
+    assert_eq!(rt; affine_main(alloc, &words, &mut files, &mut out), 1);
+    assert_eq!(rt;
+        out.written.as_slice(),
+        b"refused TooLong 16777216\n".as_slice()
+    );
+    let mut sink = CleanSink { taken: 0 };
+    let mut none = CleanFiles {
+        files: Vec::new(alloc),
+    };
+    assert_eq!(rt; affine_cleanly(alloc, &[], &mut none, &mut sink), 2);
+    assert_eq!(rt; sink.taken, 43);
+    Ok(())
+}
+
+#[test]
+fn a_file_on_disk_is_analysed(rt: HostRuntime) -> Result<(), Fail> {
+    let alloc = rt.alloc();
+    let id = process::id(rt.process());
+    let path = env::temp_dir(&rt)?.join(alloc, format!(in alloc; "straight-code-{id}")?.as_str())?;
+    let name = path.to_str().ok_or("no text")?;
+    let bytes = small_file(alloc, &[0x00500513, 0x00100073])?;
+    fs::write(&rt, name, bytes.as_slice())?;
+    let words = words_of(
+        alloc,
+        format!(in alloc; "analyse {name} --track a0")?.as_str(),
+    )?;
+    let mut files = DiskFiles::new(alloc, &rt);
+    let mut out = MemSink::with_capacity(alloc, 1000, 1000, Vec::new(alloc))
+        .ok()
+        .ok_or("memory")?;
+    assert_eq!(rt; affine_main(alloc, &words, &mut files, &mut out), 0);
+    assert_eq!(rt; out.written.as_slice(), REPORT.as_bytes());
+    assert_eq!(rt;
+        affine_main(alloc, &words, &mut files, &mut StdSink::new(&rt)),
+        0
+    );
+    fs::remove_file(&rt, name)?;
+    Ok(())
+}
