@@ -2,8 +2,8 @@
 //!
 //! A matrix has 17 rows and 17 columns and acts on a state from the left. Its word at row i and column j stands at
 //! position 17 * i + j. The calls make the identity, products, images of rows, the map after an affine assignment, and
-//! the map of a callee as its caller sees it. None takes memory or refuses. `laws` has what holds of them all. How a
-//! module of matrices is kept is left to the crates above.
+//! the map of a callee as its caller sees it. None takes memory or refuses. `laws` has what holds of them all. A
+//! module of matrices is kept as a [`MatBasis`].
 //!
 //! ```text
 //! let doubled = after_affine(&identity(1), 0, &Row::zero().with(0, 2));
@@ -21,8 +21,12 @@ mod tests;
 
 pub use calls::{extend_call, keeps};
 pub use laws::{affine_maps_compose, keeping_is_linear, maps_are_linear, products_associate};
+use lead_basis::Basis;
 pub use matrices::{after_affine, apply, identity, product};
 use word_rows::Row;
 
 /// A matrix of 17 rows and 17 columns: the word at row i and column j is at position 17 * i + j.
 pub type Mat = Row<289>;
+
+/// A basis of a module of matrices.
+pub type MatBasis = Basis<289>;
