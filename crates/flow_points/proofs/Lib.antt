@@ -1,0 +1,13 @@
+pub mod OneOutcome
+pub mod SamePoint
+pub mod SiteFacts
+pub mod Lists
+pub mod Reaching
+pub mod Soonest
+pub mod AllReached
+pub mod Jumps
+pub mod CausesFound
+pub mod Ascent
+pub mod Recovered
+pub mod PointLaws
+pub mod OneRefusal

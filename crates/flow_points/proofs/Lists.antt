@@ -1,0 +1,36 @@
+-- Lists: what stands in them, and what holds of all their items.
+use Rattle.std.proofs.Common.{◌≡◌, ℕ, List, [], ◌∷◌, map, false, Option, None, Some, is_some, slice_get, All, Contains, refl, ap, ◌∙◌, arith}
+use Rattle.std.proofs.lemmas.Bool.{true≢false}
+use Rattle.std.proofs.lemmas.List.{get_or-map, length-map}
+use Rattle.std.proofs.lemmas.List.Elements.{All-contains, All-cons, All-nil, Contains-get_or}
+use Rattle.std.proofs.lemmas.Option.{get_or_from_slice_get, slice_get_within}
+
+pub alone : {X : Type 0} (x : X) → Contains (x ∷ []) x
+alone x = Contains-get_or (x ∷ []) 0 x (omega arith)
+
+pub first : {X : Type 0} (x y : X) → Contains (x ∷ y ∷ []) x
+first x y = Contains-get_or (x ∷ y ∷ []) 0 x (omega arith)
+
+pub second : {X : Type 0} (x y : X) → Contains (x ∷ y ∷ []) y
+second x y = Contains-get_or (x ∷ y ∷ []) 1 y (omega arith)
+
+pub all_one : {X : Type 0} (P : X → Type 0) (x : X) → P x → All P (x ∷ [])
+all_one P x h = All-cons P x [] h (All-nil P)
+
+pub all_two : {X : Type 0} (P : X → Type 0) (x y : X) → P x → P y → All P (x ∷ y ∷ [])
+all_two P x y h k = All-cons P x (y ∷ []) h (all_one P y k)
+
+-- an item that a list has at a place, and what holds of all items
+pub item_there : {X : Type 0} (xs : List X) (i : ℕ) (x : X) → slice_get xs i ≡ Some x → Contains xs x
+item_there xs i x e = (i, slice_get_within xs i x e, get_or_from_slice_get xs i x x e)
+
+pub all_at : {X : Type 0} (P : X → Type 0) (xs : List X) (i : ℕ) (x : X) → slice_get xs i ≡ Some x → All P xs → P x
+all_at P xs i x e all = All-contains P xs x all (item_there xs i x e)
+
+pub Contains-map : {X Y : Type 0} (f : X → Y) (xs : List X) (x : X) → Contains xs x → Contains (map f xs) (f x)
+Contains-map f xs x h =
+    (h.0, omega (arith, h.1, length-map xs f), get_or-map f xs h.0 x (f x) h.1 ∙ ap f h.2)
+
+pub no_value : {X : Type 0} (o : Option X) → is_some o ≡ false → o ≡ None
+no_value None e = refl
+no_value (Some x) e = absurd (true≢false e)

@@ -1,0 +1,114 @@
+-- What the search for points keeps.
+use Rattle.std.proofs.Common.{◌≡◌, ◌≢◌, ℕ, ◌+◌, ◌<◌, List, [], ◌∷◌, ◌++◌, length, get_or, false, Option, Some, is_some, Result, Ok, Err, IfOk, OnOk, slice_get, All, Contains, refl, sym, ap, subst, ◌∙◌, arith, length-append}
+use Rattle.std.specs.List.{AllWithin, IsDistinct}
+use Rattle.std.specs.Map.{keys_of, lookup}
+use Rattle.std.proofs.lemmas.List.{get_or_append_left}
+use Rattle.std.proofs.lemmas.List.Elements.{AllWithin-more, All-weaker, All-map, All-push, Contains-append_left, Contains-get_or, Contains-push}
+use Rattle.std.proofs.lemmas.List.Quantifiers.{all_pairs_push}
+use Rattle.std.proofs.lemmas.Map.Entries.{length-keys_of}
+use Rattle.std.proofs.lemmas.Map.Made.{AllPairs-from_IsDistinct}
+use Rattle.std.proofs.lemmas.Map.Views.{IsSome-lookup_from_Contains}
+use Rattle.std.proofs.lemmas.Option.{slice_get-get_or}
+use Rattle.flow_points.specs.Flows.{HasFlow}
+use Rattle.flow_points.specs.Walks.{FlowWalk, HasMoreThan, onward, successors_of}
+use Rattle.flow_points.specs.Sites.{Adds, AreSites, HasSite, HasSuccessors, IsSite}
+use Rattle.flow_points.specs.Causes.{same_point}
+use Rattle.flow_points.specs.declared.steps.Point.{Point}
+use Rattle.flow_points.specs.declared.steps.Site.{Site}
+use Rattle.flow_points.specs.declared.steps.CodePoint.{CodePoint}
+use Rattle.flow_points.specs.declared.steps.Flow.{Flow}
+use Rattle.flow_points.specs.declared.refusal.FlowRefusal.{FlowRefusal}
+use Rattle.flow_points.proofs.SamePoint.{laws, tells}
+use Rattle.flow_points.proofs.Lists.{all_one, all_two, Contains-map}
+
+pub reached_by : (fetch : ℕ → Option ℕ) (entry : ℕ) (from to : Point) (flow is : Flow) → FlowWalk fetch entry from
+    → HasFlow fetch from.address flow → flow ≡ is → Contains (successors_of from.proc_entry is) to → FlowWalk fetch entry to
+reached_by fetch entry from to flow is walk has e there =
+    onward from to is walk (subst (λ (f : Flow). HasFlow fetch from.address f) e has) there
+
+pub key_there : (entries : List (Point × Site)) (e : Point × Site) → Contains entries e → HasSite entries e.0
+key_there entries e h = Contains-map (λ (d : Point × Site). d.0) entries e h
+
+pub keys_added : (old more : List (Point × Site)) → keys_of (old ++ more) ≡ keys_of old ++ keys_of more
+keys_added [] more = refl
+keys_added (e ∷ old) more = ap (λ ks. e.0 ∷ ks) (keys_added old more)
+
+pub still_there : (old new more : List (Point × Site)) (p : Point) → new ≡ old ++ more → HasSite old p → HasSite new p
+still_there old new more p e h =
+    subst (λ ks. Contains ks p) (sym (ap keys_of e ∙ keys_added old more)) (Contains-append_left (keys_of old) (keys_of more) p h)
+
+pub new_there : (old new : List (Point × Site)) (p : Point) (s : Site) → new ≡ old ++ (p, s) ∷ [] → HasSite new p
+new_there old new p s e =
+    subst (λ ks. Contains ks p) (sym (ap keys_of e ∙ keys_added old ((p, s) ∷ []))) (Contains-push (keys_of old) p)
+
+pub one_more : (fetch : ℕ → Option ℕ) (entry : ℕ) (old new : List (Point × Site)) (p : Point) (s : Site)
+    → AreSites fetch entry old → (length old ≡ 4096 → ⊥) → FlowWalk fetch entry p → IsSite fetch p s
+    → new ≡ old ++ (p, s) ∷ [] → Adds fetch entry old new
+one_more fetch entry old new p s are room walk is e =
+    record {
+      more = (p, s) ∷ [];
+      after = e;
+      sites = subst (AreSites fetch entry) (sym e) (record {
+        reached = All-push (λ d. FlowWalk fetch entry d.0) old (p, s) are.reached walk;
+        sites = All-push (λ d. IsSite fetch d.0 d.1) old (p, s) are.sites is;
+        few = let below = are.few in omega (arith, length-append old ((p, s) ∷ []));
+      });
+    }
+
+pub ok_always : {T E P : Type 0} (r : Result T E) → P → OnOk r P
+ok_always (Ok x) h = h
+ok_always (Err e) h = tt
+
+on_ok : {T E A B : Type 0} (r : Result T E) → (A → B) → OnOk r A → OnOk r B
+on_ok (Ok x) f h = f h
+on_ok (Err e) f h = tt
+
+pub one_there : {T E : Type 0} (r : Result T E) (new : List (Point × Site)) (p : ℕ) (flow is : Flow) (x : Point) → flow ≡ is
+    → successors_of p is ≡ x ∷ [] → OnOk r (HasSite new x) → OnOk r (All (HasSite new) (successors_of p flow))
+one_there r new p flow is x e s =
+    on_ok r (λ h. subst (All (HasSite new)) (sym (ap (successors_of p) e ∙ s)) (all_one (HasSite new) x h))
+
+pub two_there : {T E : Type 0} (r : Result T E) (fetch : ℕ → Option ℕ) (entry : ℕ) (mid new : List (Point × Site)) (p : ℕ)
+    (flow is : Flow) (x y : Point) → flow ≡ is → successors_of p is ≡ x ∷ y ∷ [] → HasSite mid x
+    → Adds fetch entry mid new → OnOk r (HasSite new y) → OnOk r (All (HasSite new) (successors_of p flow))
+two_there r fetch entry mid new p flow is x y e s there adds =
+    on_ok r (λ h. subst (All (HasSite new)) (sym (ap (successors_of p) e ∙ s))
+    (all_two (HasSite new) x y (still_there mid new adds.more x adds.after there) h))
+
+-- a point that isn't there where there are as many as may be
+pub more_points : (fetch : ℕ → Option ℕ) (entry : ℕ) (entries : List (Point × Site)) (p : Point)
+    → AreSites fetch entry entries → IsDistinct same_point (keys_of entries)
+    → is_some (lookup (same_point p) entries) ≡ false → length entries ≡ 4096 → FlowWalk fetch entry p
+    → HasMoreThan fetch entry 4096
+more_points fetch entry entries p are apart absent full walk =
+    record {
+      points = keys_of entries ++ p ∷ [];
+      reached = All-push (FlowWalk fetch entry) (keys_of entries) p (All-map (FlowWalk fetch entry) (λ (e : Point × Site). e.0) entries are.reached) walk;
+      apart = all_pairs_push (λ q r. q ≢ r) (keys_of entries) p (AllPairs-from_IsDistinct tells (keys_of entries) apart)
+          (λ k d lt e. let there : HasSite entries p = subst (Contains (keys_of entries)) e (Contains-get_or (keys_of entries) k d lt) in
+          let found = IsSome-lookup_from_Contains laws p entries there in cc);
+      more = omega (arith, length-append (keys_of entries) (p ∷ []), length-keys_of entries);
+    }
+
+-- where the flow goes on from all entries up to one more
+pub grown : (old new : List (Point × Site)) → ((p : Point) → HasSite old p → HasSite new p) → (e : Point × Site)
+    → HasSuccessors old (Some e) → HasSuccessors new (Some e)
+grown old new keeps e = by e.1.code
+  where
+    by : (r : Result CodePoint FlowRefusal) → IfOk r (λ c. All (HasSite old) (successors_of e.0.proc_entry c.flow))
+        → IfOk r (λ c. All (HasSite new) (successors_of e.0.proc_entry c.flow))
+    by (Ok c) h = All-weaker (HasSite old) (HasSite new) keeps (successors_of e.0.proc_entry c.flow) h
+    by (Err cause) h = tt
+
+pub closed_more : (old new more : List (Point × Site)) (at : ℕ) → new ≡ old ++ more → at < length old
+    → AllWithin (λ e. HasSuccessors old (Some e)) old 0 at → HasSuccessors new (slice_get old at)
+    → AllWithin (λ e. HasSuccessors new (Some e)) new 0 (at + 1)
+closed_more old new more at after lt closed there =
+    AllWithin-more (λ (e : Point × Site). HasSuccessors new (Some e)) new 0 at
+    (λ k d low below. subst (λ (e : Point × Site). HasSuccessors new (Some e)) (sym (same k d (omega arith)))
+    (grown old new (λ p. still_there old new more p after) (get_or old k d) (closed k d low below)))
+    (λ d. subst (λ (e : Point × Site). HasSuccessors new (Some e)) (sym (same at d lt))
+    (subst (λ (o : Option (Point × Site)). HasSuccessors new o) (slice_get-get_or old at d lt) there))
+  where
+    same : (k : ℕ) (d : Point × Site) → k < length old → get_or new k d ≡ get_or old k d
+    same k d below = ap (λ (xs : List (Point × Site)). get_or xs k d) after ∙ get_or_append_left old more d k below

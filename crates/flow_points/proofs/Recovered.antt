@@ -1,0 +1,121 @@
+-- The list of points that a finished search gives.
+use Rattle.std.proofs.Common.{◌≡◌, ℕ, nat_eq, ◌+◌, List, [], ◌∷◌, ◌++◌, length, take, append-nil, slice_get, Option, None, Some, Result, Ok, Err, All, Contains, refl, sym, ap, subst, ◌∙◌, arith}
+use Rattle.std.specs.List.{IsDistinct, cons_option, dedup}
+use Rattle.std.specs.List.Sorted.{IsPermutation, IsSorted}
+use Rattle.std.specs.Map.{keys_of}
+use Rattle.std.specs.Result.{result_ok}
+use Rattle.std.proofs.lemmas.List.{length-map, take_more}
+use Rattle.std.proofs.lemmas.Option.{get_or_from_slice_get, slice_get_within}
+use Rattle.std.proofs.lemmas.List.Elements.{All-contains, All-contains_itself, All-head, All-map, All-tail, All-weaker, All-cons, All-nil, filter_map-append}
+use Rattle.std.proofs.lemmas.List.Sorted.{All-permutation, Contains-permutation, IsPermutation-map, length_permutation}
+use Rattle.std.proofs.lemmas.Map.Entries.{length-keys_of}
+use Rattle.flow_points.specs.Walks.{FlowWalk, start}
+use Rattle.flow_points.specs.Refusals.{IsRefusal, bad_point, there, too_many}
+use Rattle.flow_points.specs.Sites.{AreAllSites, IsCode, IsSite}
+use Rattle.flow_points.specs.Causes.{codes_of, first_cause_of, same_point}
+use Rattle.flow_points.specs.PointLists.{ArePoints, entries_of, places_of, point_cmp}
+use Rattle.flow_points.specs.declared.steps.Point.{Point}
+use Rattle.flow_points.specs.declared.steps.CodePoint.{CodePoint}
+use Rattle.flow_points.specs.declared.steps.Site.{Site}
+use Rattle.flow_points.specs.declared.refusal.FlowRefusal.{FlowRefusal}
+use Rattle.flow_points.proofs.AllReached.{all_reached, not_too_many}
+use Rattle.flow_points.proofs.Ascent.{ascending}
+use Rattle.flow_points.proofs.CausesFound.{none_bad}
+use Rattle.flow_points.proofs.Lists.{Contains-map}
+use Rattle.flow_points.proofs.SiteFacts.{site_cause, site_code}
+
+-- one entry more, with code and without
+codes_more : (entries : List (Point × Site)) (i : ℕ) (e : Point × Site) → slice_get entries i ≡ Some e
+    → codes_of (take (i + 1) entries) ≡ codes_of (take i entries) ++ codes_of (e ∷ [])
+codes_more entries i e at =
+    let more = take_more entries i e (slice_get_within entries i e at)
+    ∙ ap (λ (d : Point × Site). take i entries ++ d ∷ []) (get_or_from_slice_get entries i e e at) in
+    ap codes_of more ∙ filter_map-append (λ (d : Point × Site). result_ok d.1.code) (take i entries) (e ∷ [])
+
+pub code_more : (entries : List (Point × Site)) (i : ℕ) (e : Point × Site) (c : CodePoint) (points : List CodePoint)
+    → slice_get entries i ≡ Some e → e.1.code ≡ Ok c → points ≡ codes_of (take i entries)
+    → points ++ c ∷ [] ≡ codes_of (take (i + 1) entries)
+code_more entries i e c points at is so_far =
+    (λ j. so_far j ++ c ∷ [])
+    ∙ sym (codes_more entries i e at ∙ ap (λ (r : Result CodePoint FlowRefusal). codes_of (take i entries) ++ cons_option (result_ok r) []) is)
+
+pub no_code_more : (entries : List (Point × Site)) (i : ℕ) (e : Point × Site) (cause : FlowRefusal)
+    → slice_get entries i ≡ Some e → e.1.code ≡ Err cause → codes_of (take i entries) ≡ codes_of (take (i + 1) entries)
+no_code_more entries i e cause at is =
+    sym (codes_more entries i e at
+    ∙ ap (λ (r : Result CodePoint FlowRefusal). codes_of (take i entries) ++ cons_option (result_ok r) []) is
+    ∙ append-nil (codes_of (take i entries)))
+
+-- an entry with code
+pub record IsGood (fetch : ℕ → Option ℕ) (e : Point × Site) : Type 0 where
+  pub code : CodePoint
+  pub is : e.1.code ≡ Ok code
+  pub place : code.point ≡ e.0
+  pub good : IsCode fetch code
+
+module _ (fetch : ℕ → Option ℕ) where
+  code_first : (e : Point × Site) (es : List (Point × Site)) (good : IsGood fetch e) → codes_of (e ∷ es) ≡ good.code ∷ codes_of es
+  code_first e es good = ap (λ (r : Result CodePoint FlowRefusal). cons_option (result_ok r) (codes_of es)) good.is
+
+  codes_places : (es : List (Point × Site)) → All (IsGood fetch) es → places_of (codes_of es) ≡ keys_of es
+  codes_places [] all = refl
+  codes_places (e ∷ es) all =
+      let good = All-head (IsGood fetch) e es all in
+      ap places_of (code_first e es good)
+      ∙ (λ i. good.place i ∷ codes_places es (All-tail (IsGood fetch) e es all) i)
+
+  codes_good : (es : List (Point × Site)) → All (IsGood fetch) es → All (IsCode fetch) (codes_of es)
+  codes_good [] all = All-nil (IsCode fetch)
+  codes_good (e ∷ es) all =
+      let good = All-head (IsGood fetch) e es all in
+      subst (All (IsCode fetch)) (sym (code_first e es good))
+      (All-cons (IsCode fetch) good.code (codes_of es) good.good (codes_good es (All-tail (IsGood fetch) e es all)))
+
+module _ (fetch : ℕ → Option ℕ) (entry : ℕ) (found : List (Point × Site)) (all : AreAllSites fetch entry found)
+    (good : first_cause_of found (start entry) ≡ None) where
+  pub no_refusal : (refusal : FlowRefusal) → IsRefusal fetch entry refusal → ⊥
+  no_refusal refusal (too_many more is) = not_too_many fetch entry found all more
+  no_refusal refusal (bad_point few first) = none_bad fetch entry found all good first.at refusal first.reached first.bad
+
+  is_good : (e : Point × Site) → Contains found e → IsGood fetch e
+  is_good e at = by e.1.code refl
+    where
+      site : IsSite fetch e.0 e.1
+      site = All-contains (λ (d : Point × Site). IsSite fetch d.0 d.1) found e all.sites.sites at
+
+      by : (r : Result CodePoint FlowRefusal) → e.1.code ≡ r → IsGood fetch e
+      by (Ok c) is = let code = site_code fetch e.0 e.1 c site is in record { code = c; is = is; place = code.0; good = code.1 }
+      by (Err cause) is =
+          absurd (none_bad fetch entry found all good e.0 cause
+          (All-contains (λ (d : Point × Site). FlowWalk fetch entry d.0) found e all.sites.reached at)
+          (there (site_cause fetch e.0 e.1 cause site is)))
+
+  module _ (sorted : List (Point × Site)) (moved : IsPermutation found sorted) where
+    all_good : All (IsGood fetch) sorted
+    all_good = All-permutation (IsGood fetch) found sorted moved (All-weaker (Contains found) (IsGood fetch) is_good found (All-contains_itself found))
+
+    places : places_of (codes_of sorted) ≡ keys_of sorted
+    places = codes_places fetch sorted all_good
+
+    pub are_points : (points : List CodePoint) (procedures : List ℕ) → IsSorted point_cmp (keys_of sorted)
+        → IsDistinct same_point (keys_of sorted) → points ≡ codes_of sorted → procedures ≡ dedup nat_eq (entries_of points)
+        → ArePoints fetch entry (record { entry = entry; points = points; procedures = procedures })
+    are_points points procedures up distinct are procs =
+        let same : places_of points ≡ keys_of sorted = ap places_of are ∙ places in
+        let walks = All-map (FlowWalk fetch entry) (λ (e : Point × Site). e.0) sorted
+        (All-permutation (λ (e : Point × Site). FlowWalk fetch entry e.0) found sorted moved all.sites.reached) in
+        record {
+          entry_is = refl;
+          all = λ p walk. subst (λ (ps : List Point). Contains ps p) (sym same)
+              (Contains-permutation (keys_of found) (keys_of sorted) p (IsPermutation-map (λ (e : Point × Site). e.0) found sorted moved)
+              (all_reached fetch entry found all p walk));
+          only = All-weaker (Contains points) (λ c. FlowWalk fetch entry c.point)
+              (λ c at. All-contains (FlowWalk fetch entry) (keys_of sorted) c.point walks
+              (subst (λ (ps : List Point). Contains ps c.point) same (Contains-map (λ (d : CodePoint). d.point) points c at)))
+              points (All-contains_itself points);
+          code = subst (All (IsCode fetch)) (sym are) (codes_good fetch sorted all_good);
+          ascending = ascending points (subst (IsSorted point_cmp) (sym same) up) (subst (IsDistinct same_point) (sym same) distinct);
+          few = let below = all.sites.few in
+              omega (arith, length-map points (λ (c : CodePoint). c.point), ap length same, length-keys_of sorted, length_permutation found sorted moved);
+          procedures_are = procs;
+        }

@@ -1,0 +1,53 @@
+-- The causes that make the points of a search bad. No public contract cites these words.
+--
+--   same_point p q               whether p and q are one point
+--   site_of entries p            what there is at the point p, if it was found
+--   pair_cause entries p         the cause that p has where a jump goes to it: if it is a second half
+--   cause_of entries s           what is bad at a point, or a pair that it jumps into
+--   is_sooner a b                the cause a has a lower address than b, or the same and no greater number
+--   sooner a b                   the sooner one of two causes, where there is one
+--   first_cause_of entries start the soonest of all
+--   codes_of entries             the code of the points that aren't bad, in order
+use Rattle.std.specs.Prelude.{◌==◌, nat_lt, nat_le, Bool, ◌&&◌, ◌||◌, List, map, fold, Option, None, Some, option_and_then, Result, Ok, Err, if◌then◌else◌}
+use Rattle.std.specs.List.{filter_map}
+use Rattle.std.specs.Map.{lookup}
+use Rattle.std.specs.Result.{result_ok}
+use Rattle.flow_points.specs.Walks.{jump_of}
+use Rattle.flow_points.specs.Refusals.{number_of, place_of}
+use Rattle.flow_points.specs.declared.steps.Point.{Point}
+use Rattle.flow_points.specs.declared.steps.CodePoint.{CodePoint}
+use Rattle.flow_points.specs.declared.steps.Site.{Site}
+use Rattle.flow_points.specs.declared.refusal.FlowRefusal.{FlowRefusal}
+use Rattle.flow_points.specs.declared.refusal.FlowRefusal.TheVariants.{IntoPair}
+
+abbrev pub same_point : Point → Point → Bool
+same_point p q = p.proc_entry == q.proc_entry && p.address == q.address
+
+abbrev pub site_of : List (Point × Site) → Point → Option Site
+site_of entries p = lookup (same_point p) entries
+
+abbrev pub pair_cause : List (Point × Site) → Point → Option FlowRefusal
+pair_cause entries p =
+    option_and_then (λ s. if s.ends_pair then Some (IntoPair p.address) else None) (site_of entries p)
+
+abbrev pub cause_in : List (Point × Site) → Result CodePoint FlowRefusal → Option FlowRefusal
+cause_in entries (Ok c) = option_and_then (pair_cause entries) (jump_of c.point.proc_entry c.flow)
+cause_in entries (Err cause) = Some cause
+
+abbrev pub cause_of : List (Point × Site) → Site → Option FlowRefusal
+cause_of entries s = cause_in entries s.code
+
+abbrev pub is_sooner : FlowRefusal → FlowRefusal → Bool
+is_sooner a b =
+    nat_lt (place_of a) (place_of b) || (place_of a == place_of b && nat_le (number_of a) (number_of b))
+
+abbrev pub sooner : Option FlowRefusal → Option FlowRefusal → Option FlowRefusal
+sooner None b = b
+sooner (Some a) None = Some a
+sooner (Some a) (Some b) = if is_sooner a b then Some a else Some b
+
+abbrev pub first_cause_of : List (Point × Site) → Point → Option FlowRefusal
+first_cause_of entries start = fold sooner (pair_cause entries start) (map (λ e. cause_of entries e.1) entries)
+
+abbrev pub codes_of : List (Point × Site) → List CodePoint
+codes_of entries = filter_map (λ e. result_ok e.1.code) entries

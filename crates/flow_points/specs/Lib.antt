@@ -1,0 +1,6 @@
+pub mod Flows
+pub mod Walks
+pub mod Refusals
+pub mod Sites
+pub mod Causes
+pub mod PointLists

@@ -1,0 +1,64 @@
+-- Why code is refused.
+--
+--   place_of cause                   the address that a cause names
+--   number_of cause                  its number, in the order of the causes
+--   HasCause fetch entry p cause     the point p is bad for this cause: what is bad at its address, or a
+--                                    second half of a pair that is the start or that a jump goes to
+--   IsBad image p                    p is a point of the image and is bad
+--   IsFirstCause fetch entry cause   some point is bad for it, no bad point has a lower address, and no
+--                                    cause of a lower number makes a point with that address bad
+--   IsRefusal fetch entry refusal    why the code is refused: more than 4,096 points, else the first cause
+--   IsFlowRefusal image refusal      the same of an image
+use Rattle.std.specs.Prelude.{◌≡◌, ℕ, ◌≤◌, Option, Err}
+use Rattle.elf_image.specs.Images.{code_word}
+use Rattle.elf_image.specs.declared.image.Image.{Image}
+use Rattle.flow_points.specs.Flows.{IsSecondHalf, Judged}
+use Rattle.flow_points.specs.Walks.{FlowWalk, HasMoreThan, IsEntered}
+use Rattle.flow_points.specs.declared.steps.Point.{Point}
+use Rattle.flow_points.specs.declared.refusal.FlowRefusal.{FlowRefusal}
+use Rattle.flow_points.specs.declared.refusal.FlowRefusal.TheVariants.{TooManyPoints, OutsideCode, NoInstruction, OddLink, IndirectJump, MisalignedTarget, IntoPair, Memory}
+
+abbrev pub place_of : FlowRefusal → ℕ
+place_of (TooManyPoints limit) = 0
+place_of (OutsideCode a) = a
+place_of (NoInstruction a word) = a
+place_of (OddLink a register) = a
+place_of (IndirectJump a register) = a
+place_of (MisalignedTarget a target) = a
+place_of (IntoPair a) = a
+place_of Memory = 0
+
+abbrev pub number_of : FlowRefusal → ℕ
+number_of (TooManyPoints limit) = 1
+number_of (OutsideCode a) = 2
+number_of (NoInstruction a word) = 3
+number_of (OddLink a register) = 4
+number_of (IndirectJump a register) = 5
+number_of (MisalignedTarget a target) = 6
+number_of (IntoPair a) = 7
+number_of Memory = 8
+
+pub data HasCause (fetch : ℕ → Option ℕ) (entry : ℕ) (p : Point) (cause : FlowRefusal) : Type 0 where
+  there : Judged fetch p.address (Err cause) → HasCause fetch entry p cause
+  into_pair : IsEntered fetch entry p → IsSecondHalf fetch p.address → cause ≡ IntoPair p.address
+      → HasCause fetch entry p cause
+
+abbrev pub IsBad : Image → Point → Type 0
+IsBad image p = FlowWalk (code_word image) image.entry p
+    × ((cause : FlowRefusal) × HasCause (code_word image) image.entry p cause)
+
+pub record IsFirstCause (fetch : ℕ → Option ℕ) (entry : ℕ) (cause : FlowRefusal) : Type 0 where
+  pub at : Point
+  pub reached : FlowWalk fetch entry at
+  pub bad : HasCause fetch entry at cause
+  pub least_address : (p : Point) (other : FlowRefusal) → FlowWalk fetch entry p → HasCause fetch entry p other
+      → place_of cause ≤ place_of other
+  pub least_number : (p : Point) (other : FlowRefusal) → FlowWalk fetch entry p → HasCause fetch entry p other
+      → place_of other ≡ place_of cause → number_of cause ≤ number_of other
+
+pub data IsRefusal (fetch : ℕ → Option ℕ) (entry : ℕ) (refusal : FlowRefusal) : Type 0 where
+  too_many : HasMoreThan fetch entry 4096 → refusal ≡ TooManyPoints 4096 → IsRefusal fetch entry refusal
+  bad_point : (HasMoreThan fetch entry 4096 → ⊥) → IsFirstCause fetch entry refusal → IsRefusal fetch entry refusal
+
+abbrev pub IsFlowRefusal : Image → FlowRefusal → Type 0
+IsFlowRefusal image refusal = IsRefusal (code_word image) image.entry refusal

@@ -1,0 +1,30 @@
+//! What follows of points, whatever the code is, and of refusals.
+
+ghost use Rattle.std.specs.Prelude.{◌≡◌, ℕ, Contains};
+ghost use Rattle.elf_image.specs.declared.image.Image.{Image};
+ghost use Rattle.std.specs.List.Sorted.{IsStrictlyIncreasing};
+ghost use Rattle.flow_points.specs.Walks.{start, successors_of};
+ghost use Rattle.flow_points.specs.Refusals.{IsFlowRefusal};
+ghost use Rattle.flow_points.specs.declared.refusal.FlowRefusal.{FlowRefusal};
+ghost use Rattle.flow_points.specs.PointLists.{FlowPoints, HasCode, entries_of, places_of};
+ghost use Rattle.flow_points.specs.declared.steps.CodePoint.{CodePoint};
+ghost use Rattle.flow_points.specs.declared.steps.Point.{Point};
+
+/// The start is a point, and so is where the flow goes on from a point.
+pub fn points_are_closed()
+    ensures begins { (points : FlowPoints) → HasCode points → Contains (places_of points.points) (start points.entry) }
+    ensures goes_on { (points : FlowPoints) (c : CodePoint) (to : Point) → HasCode points → Contains points.points c →
+        Contains (successors_of c.point.proc_entry c.flow) to → Contains (places_of points.points) to }
+{}
+
+/// The procedures ascend, and they are those of the points.
+pub fn procedures_ascend()
+    ensures ascending { (points : FlowPoints) → HasCode points → IsStrictlyIncreasing points.procedures }
+    ensures all { (points : FlowPoints) (p : ℕ) → HasCode points → Contains (entries_of points.points) p → Contains points.procedures p }
+    ensures only { (points : FlowPoints) (p : ℕ) → HasCode points → Contains points.procedures p → Contains (entries_of points.points) p }
+{}
+
+/// An image is refused for one cause alone.
+pub fn refusal_is_one()
+    ensures { (image : Image) (r s : FlowRefusal) → IsFlowRefusal image r → IsFlowRefusal image s → r ≡ s }
+{}

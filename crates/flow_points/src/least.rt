@@ -1,0 +1,112 @@
+//! The first cause that makes a point bad.
+
+ghost use Rattle.std.specs.Prelude.{◌≡◌};
+ghost use Rattle.flow_points.specs.Walks.{jump_of};
+ghost use Rattle.flow_points.specs.Refusals.{number_of, place_of};
+ghost use Rattle.flow_points.specs.Causes.{cause_of, first_cause_of, pair_cause, is_sooner, sooner};
+
+use crate::refusal::FlowRefusal;
+use crate::steps::{Flow, Point, Site};
+use crate::walks::{Sites, entry_at};
+
+/// The first cause, by address and then by its number, that makes one of the points bad.
+pub fn first_cause(sites: &Sites, start: Point) -> Option<FlowRefusal>
+    ensures { result ≡ first_cause_of sites.now.entries start }
+{
+    let mut first = pair_cause(sites, start);
+    for at in 0..sites.len() {
+        let (_, site) = entry_at(sites, at);
+        first = sooner(first, cause_of(sites, site));
+    }
+    first
+}
+
+// What is bad at a point, or a pair that it jumps into.
+fn cause_of(sites: &Sites, site: Site) -> Option<FlowRefusal>
+    ensures { result ≡ cause_of sites.now.entries site }
+{
+    match site.code {
+        Ok(code) => pair_cause(sites, jump_of(code.point.proc_entry, code.flow)?),
+        Err(cause) => Some(cause),
+    }
+}
+
+// The cause that a point to which a jump goes has, if it is the second half of a pair.
+fn pair_cause(sites: &Sites, point: Point) -> Option<FlowRefusal>
+    ensures { result ≡ pair_cause sites.now.entries point }
+{
+    let site = sites.get(&point)?;
+    if site.ends_pair {
+        Some(FlowRefusal::IntoPair(point.address))
+    } else {
+        None
+    }
+}
+
+// Where a jump, a branch or a call goes.
+fn jump_of(proc_entry: u64, flow: Flow) -> Option<Point>
+    ensures { result ≡ jump_of proc_entry flow }
+{
+    match flow {
+        Flow::Jump(target) | Flow::Branch { target, .. } => Some(Point {
+            proc_entry,
+            address: target,
+        }),
+        Flow::Call { target, .. } => Some(Point {
+            proc_entry: target,
+            address: target,
+        }),
+        Flow::Next(_) | Flow::Return | Flow::Halt => None,
+    }
+}
+
+fn sooner(a: Option<FlowRefusal>, b: Option<FlowRefusal>) -> Option<FlowRefusal>
+    ensures { result ≡ sooner a b }
+{
+    match (a, b) {
+        (None, other) | (other, None) => other,
+        (Some(cause), Some(other)) => {
+            if is_sooner(cause, other) {
+                Some(cause)
+            } else {
+                Some(other)
+            }
+        }
+    }
+}
+
+fn is_sooner(a: FlowRefusal, b: FlowRefusal) -> bool
+    ensures { result ≡ is_sooner a b }
+{
+    let (place, other) = (place_of(a), place_of(b));
+    place < other || place == other && number_of(a) <= number_of(b)
+}
+
+fn place_of(cause: FlowRefusal) -> u64
+    ensures { result ≡ place_of cause }
+{
+    match cause {
+        FlowRefusal::OutsideCode(address)
+        | FlowRefusal::NoInstruction(address, _)
+        | FlowRefusal::OddLink(address, _)
+        | FlowRefusal::IndirectJump(address, _)
+        | FlowRefusal::MisalignedTarget(address, _)
+        | FlowRefusal::IntoPair(address) => address,
+        FlowRefusal::TooManyPoints(_) | FlowRefusal::Memory => 0,
+    }
+}
+
+fn number_of(cause: FlowRefusal) -> u8
+    ensures { result ≡ number_of cause }
+{
+    match cause {
+        FlowRefusal::TooManyPoints(_) => 1,
+        FlowRefusal::OutsideCode(_) => 2,
+        FlowRefusal::NoInstruction(..) => 3,
+        FlowRefusal::OddLink(..) => 4,
+        FlowRefusal::IndirectJump(..) => 5,
+        FlowRefusal::MisalignedTarget(..) => 6,
+        FlowRefusal::IntoPair(_) => 7,
+        FlowRefusal::Memory => 8,
+    }
+}

@@ -1,0 +1,72 @@
+//! What there is at a point.
+
+ghost use Rattle.std.specs.Prelude.{◌≡◌, false};
+ghost use Rattle.elf_image.specs.Images.{code_word};
+ghost use Rattle.flow_points.specs.Flows.{HasUpper};
+ghost use Rattle.flow_points.specs.Sites.{IsSite, auipc_field};
+
+use crate::flows::{base_of, flow_of, prior};
+use crate::refusal::FlowRefusal;
+use crate::steps::{CodePoint, Point, Site};
+use elf_image::Image;
+use rv_decode::{Instr, decode};
+
+/// What there is at a point.
+pub fn site_at(image: &Image, point: Point) -> Site
+    ensures { IsSite (code_word image.now) point result }
+{
+    let address = point.address;
+    let Some(word) = image.code_word_at(address) else {
+        return bad(FlowRefusal::OutsideCode(address));
+    };
+    let Some(instr) = decode(word) else {
+        return bad(FlowRefusal::NoInstruction(address, word));
+    };
+    let upper = upper_before(image, address, base_of(&instr));
+    let code = match flow_of(address, upper, &instr) {
+        Ok(flow) => Ok(CodePoint {
+            point,
+            word,
+            instr,
+            flow,
+        }),
+        Err(cause) => Err(cause),
+    };
+    Site {
+        code,
+        ends_pair: upper.is_some(),
+    }
+}
+
+// The field of the AUIPC before an address, where its destination is this register and not zero.
+fn upper_before(image: &Image, address: u64, register: u8) -> Option<u32>
+    ensures { HasUpper (code_word image.now) address register result }
+{
+    if register == 0 {
+        return None;
+    }
+    let word = image.code_word_at(prior(address))?;
+    let instr = decode(word)?;
+    auipc_field(&instr, register)
+}
+
+// The field of an AUIPC with this destination.
+fn auipc_field(instr: &Instr, register: u8) -> Option<u32>
+    ensures { result ≡ auipc_field instr.now register }
+{
+    match *instr {
+        Instr::Auipc { rd, imm } if rd == register => Some(imm),
+        _ => None,
+    }
+}
+
+// No code, so no second half of a pair.
+fn bad(cause: FlowRefusal) -> Site
+    ensures code { result.code ≡ Err cause }
+    ensures ends_pair { result.ends_pair ≡ false }
+{
+    Site {
+        code: Err(cause),
+        ends_pair: false,
+    }
+}

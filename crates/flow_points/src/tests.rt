@@ -1,0 +1,163 @@
+//! A table of small files with their points or their refusals.
+
+use crate::{Flow, FlowRefusal, Point, Points, recover};
+use elf_image::read_image;
+use std::alloc::{AllocError, Global};
+use std::test::Fail;
+
+/// The headers of an executable with one segment, which is the whole file, loaded at 0x10000. The code
+/// begins at 0x10078. The file's length is to be written at the places 96 and 104.
+const HEADERS: [u8; 120] = [
+    0x7f, 0x45, 0x4c, 0x46, 2, 1, 1, 0, 0, 0, 0, 0, 0, 0, 0, 0, // e_ident
+    2, 0, 243, 0, 1, 0, 0, 0, // e_type, e_machine, e_version
+    0x78, 0, 1, 0, 0, 0, 0, 0, // e_entry
+    64, 0, 0, 0, 0, 0, 0, 0, // e_phoff
+    0, 0, 0, 0, 0, 0, 0, 0, // e_shoff
+    0, 0, 0, 0, 64, 0, 56, 0, 1, 0, // e_flags, e_ehsize, e_phentsize, e_phnum
+    0, 0, 0, 0, 0, 0, // e_shentsize, e_shnum, e_shstrndx
+    1, 0, 0, 0, 5, 0, 0, 0, // p_type, p_flags
+    0, 0, 0, 0, 0, 0, 0, 0, // p_offset
+    0, 0, 1, 0, 0, 0, 0, 0, // p_vaddr
+    0, 0, 1, 0, 0, 0, 0, 0, // p_paddr
+    0, 0, 0, 0, 0, 0, 0, 0, // p_filesz
+    0, 0, 0, 0, 0, 0, 0, 0, // p_memsz
+    0, 0x10, 0, 0, 0, 0, 0, 0, // p_align
+];
+
+const NOP: u32 = 0x00050513; // addi a0,a0,0
+
+const EBREAK: u32 = 0x00100073;
+
+const RETURN: u32 = 0x00008067;
+
+/// The points of a small file with this code.
+fn points_of(alloc: Global, words: &[u32]) -> Result<Result<Points, FlowRefusal>, Fail> {
+    let mut bytes = Vec::from_slice(alloc, &HEADERS[..96])?;
+    let length = 120 + 4 * words.len() as u64;
+    bytes.extend_from_slice(&length.to_le_bytes())?;
+    bytes.extend_from_slice(&length.to_le_bytes())?;
+    bytes.extend_from_slice(&HEADERS[112..])?;
+    for word in words {
+        bytes.extend_from_slice(&word.to_le_bytes())?;
+    }
+    let image = read_image(alloc, &bytes)?;
+    Ok(recover(alloc, &image))
+}
+
+/// So many words that go on to the next, and one more.
+fn straight(alloc: Global, n: usize, last: u32) -> Result<Vec<u32>, AllocError> {
+    let mut words = vec![in alloc; NOP; n]?;
+    words.push(last)?;
+    Ok(words)
+}
+
+#[test]
+fn points_ascend(rt: HostRuntime) -> Result<(), Fail> {
+    let alloc = rt.alloc();
+    let files: [(&[u32], &[(u64, u64)]); 3] = [
+        // auipc ra,0x0; jalr ra,12(ra); ebreak; jalr zero,0(ra)
+        (
+            &[0x00000097, 0x00c080e7, EBREAK, RETURN],
+            &[
+                (0x10078, 0x10078),
+                (0x10078, 0x1007c),
+                (0x10078, 0x10080),
+                (0x10084, 0x10084),
+            ],
+        ),
+        // jal ra,12; jal ra,12; ebreak; jal zero,8; jal zero,4; jalr zero,0(ra): two procedures share a tail
+        (
+            &[
+                0x00c000ef, 0x00c000ef, EBREAK, 0x0080006f, 0x0040006f, RETURN,
+            ],
+            &[
+                (0x10078, 0x10078),
+                (0x10078, 0x1007c),
+                (0x10078, 0x10080),
+                (0x10084, 0x10084),
+                (0x10084, 0x1008c),
+                (0x10088, 0x10088),
+                (0x10088, 0x1008c),
+            ],
+        ),
+        // jal zero,0
+        (&[0x0000006f], &[(0x10078, 0x10078)]),
+    ];
+    for (words, expected) in files {
+        let points = points_of(alloc, words)??;
+        assert_eq!(rt; points.count() as usize, expected.len());
+        for i in 0..points.count() {
+            let (proc_entry, address) = expected[i as usize];
+            let point = Point {
+                proc_entry,
+                address,
+            };
+            assert_eq!(rt; points.point(i), point);
+            assert_eq!(rt; points.find(proc_entry, address), Some(i));
+        }
+        assert_eq!(rt; points.find(0x10078, 0x10090), None);
+    }
+    Ok(())
+}
+
+#[test]
+fn code_of_points(rt: HostRuntime) -> Result<(), Fail> {
+    let points = points_of(rt.alloc(), &[0x00000097, 0x00c080e7, EBREAK, RETURN])??;
+    let call = Flow::Call {
+        target: 0x10084,
+        next: 0x10080,
+    };
+    let flows = [Flow::Next(0x1007c), call, Flow::Halt, Flow::Return];
+    assert_eq!(rt; points.count(), 4);
+    for i in 0..4u32 {
+        assert_eq!(rt; points.flow(i), flows[i as usize]);
+    }
+    assert_eq!(rt; points.word(1), 0x00c080e7);
+    assert_eq!(rt; points.instr(2), rv_decode::Instr::Ebreak);
+    assert_eq!(rt; points.procedures(), [0x10078, 0x10084].as_slice());
+    assert_eq!(rt; points.entry(), 0x10078);
+    Ok(())
+}
+
+#[test]
+fn refusals(rt: HostRuntime) -> Result<(), Fail> {
+    let alloc = rt.alloc();
+    let files: [(&[u32], FlowRefusal); 8] = [
+        // jal ra,12; jalr zero,0(t0); ebreak; jalr zero,0(t1)
+        (
+            &[0x00c000ef, 0x00028067, EBREAK, 0x00030067],
+            FlowRefusal::IndirectJump(0x1007c, 5),
+        ),
+        // beq a0,zero,8 before a pair
+        (
+            &[0x00050463, 0x00000097, 0x00c080e7, EBREAK, RETURN],
+            FlowRefusal::IntoPair(0x10080),
+        ),
+        // jal t0,8
+        (&[0x008002ef], FlowRefusal::OddLink(0x10078, 5)),
+        // jal zero,2
+        (
+            &[0x0020006f],
+            FlowRefusal::MisalignedTarget(0x10078, 0x1007a),
+        ),
+        (&[0], FlowRefusal::NoInstruction(0x10078, 0)),
+        // auipc ra,0x0; jal zero,4; jalr zero,12(ra): an AUIPC that doesn't stand before the JALR
+        (
+            &[0x00000097, 0x0040006f, 0x00c08067],
+            FlowRefusal::IndirectJump(0x10080, 1),
+        ),
+        // jalr zero,0(zero)
+        (&[0x00000067], FlowRefusal::IndirectJump(0x10078, 0)),
+        (&[NOP], FlowRefusal::OutsideCode(0x1007c)),
+    ];
+    for (words, refusal) in files {
+        assert_eq!(rt; points_of(alloc, words)?.err(), Some(refusal));
+    }
+    let most = points_of(alloc, &straight(alloc, 4095, EBREAK)?)??;
+    assert_eq!(rt; most.count(), 4096);
+    let outside = points_of(alloc, &straight(alloc, 4094, NOP)?)?.err();
+    assert_eq!(rt; outside, Some(FlowRefusal::OutsideCode(0x14074)));
+    let many = points_of(alloc, &straight(alloc, 4096, EBREAK)?)?.err();
+    assert_eq!(rt; many, Some(FlowRefusal::TooManyPoints(4096)));
+    Ok(())
+}
