@@ -1,0 +1,7 @@
+pub mod Walking
+pub mod Justified
+pub mod Passing
+pub mod EachWalked
+pub mod Covering
+pub mod Registers
+pub mod Settled

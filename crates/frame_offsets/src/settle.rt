@@ -1,0 +1,34 @@
+//! Sweeps over all points until nothing changes.
+
+ghost use Rattle.std.specs.Prelude.{◌≡◌, false, length};
+ghost use Rattle.frame_offsets.specs.Slots.{AreClosedBelow, AreJustified, Changes};
+
+use crate::slot::Slot;
+use crate::table::either;
+use crate::visit::visit;
+use flow_points::Points;
+
+/// Visits the points until none changes a slot.
+pub fn settle(table: &mut [Slot], points: &Points)
+    requires { AreJustified points.now.points table.old }
+    ensures justified { AreJustified points.now.points table.new }
+    ensures closed { AreClosedBelow points.now.points table.new (length points.now.points) }
+{
+    let mut rose = true;
+    while rose {
+        rose = sweep(table, points);
+    }
+}
+
+fn sweep(table: &mut [Slot], points: &Points) -> bool
+    requires { AreJustified points.now.points table.old }
+    ensures changes { Changes points.now.points table.old table.new result }
+    ensures closed { result ≡ false → AreClosedBelow points.now.points table.new (length points.now.points) }
+{
+    let mut rose = false;
+    for i in 0..points.count() {
+        let risen = visit(table, points, i);
+        rose = either(risen, rose);
+    }
+    rose
+}
