@@ -3,6 +3,7 @@ mod StraightLaws
 mod NamesInOrder
 mod RegistersNamed
 mod VisibleBits
+mod StatesBefore
 mod StatesPushed
 mod PointsTold
 mod RelationsTold
@@ -10,3 +11,7 @@ mod OverImages
 mod RepliesGiven
 mod TooLong
 mod NoFault
+mod PointsListed
+mod FirstTurn
+mod FlowGoesOn
+mod PastTheEnd

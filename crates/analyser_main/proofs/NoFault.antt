@@ -1,7 +1,7 @@
 -- Calls over files and sinks whose counts don't rise.
 use Rattle.std.proofs.Common.{◌≡◌, ◌≢◌, ℕ, ◌<◌, inl, inr, List, Option, Some, None, refl, arith}
 use Rattle.outside.specs.Counts.{HasRisen}
-use Rattle.analyser_main.specs.Answers.{IsRefused, too_long, no_image, IsAnswer, refused, not_yet, no_list, analysed, IsListing, listed, IsAnswerOver, IsUsage, Says, whole, cut, Ends, answered, read_fault, no_memory}
+use Rattle.analyser_main.specs.Answers.{IsRefused, too_long, no_image, bad_flow, IsAnswer, refused, not_yet, no_list, analysed, IsListing, listed, IsAnswerOver, IsUsage, Says, whole, cut, Ends, answered, read_fault, no_memory}
 use Rattle.analyser_main.specs.Orders.{Order, Usage, Analyse, ListCode}
 
 -- no fault is answered
@@ -20,6 +20,7 @@ said_whole old new status text S answer still (cut answer' rose gained is) = abs
 refused_status : (bytes : List ℕ) (status : ℕ) (text : List ℕ) → IsRefused bytes status text → status < 2
 refused_status bytes status text (too_long status' text' longer is line) = omega arith
 refused_status bytes status text (no_image status' text' refusal short why is line) = omega arith
+refused_status bytes status text (bad_flow status' text' image refusal short of why is line) = omega arith
 
 -- a set of answers has no status above 1
 abbrev IsLow : (List ℕ → ℕ → List ℕ → Type 0) → Type 0
@@ -33,8 +34,7 @@ answer_low list bytes status text (analysed status' text' image report short of 
 
 listing_low : IsLow IsListing
 listing_low bytes status text (refused status' text' is) = refused_status bytes status text is
-listing_low bytes status text (not_yet status' a text' image short of why is line) = omega arith
-listing_low bytes status text (listed status' text' image code short of is_code is line) = omega arith
+listing_low bytes status text (listed status' text' image short of what is) = omega arith
 
 over_status : (contents : Option (List ℕ)) (answer : List ℕ → ℕ → List ℕ → Type 0) (status : ℕ) (text : List ℕ) → IsLow answer →
     IsAnswerOver contents answer status text → status < 2

@@ -19,7 +19,7 @@ use Rattle.report_text.specs.declared.points.PointState.{PointState}
 use Rattle.report_text.specs.declared.points.PointState.TheVariants.{Unreached, Rows}
 use Rattle.analyser_main.specs.Steps.{RelatesBy, Relates}
 use Rattle.analyser_main.proofs.VisibleBits.{AreVisible}
-use Rattle.analyser_main.proofs.StatesPushed.{before_is_state}
+use Rattle.analyser_main.proofs.StatesBefore.{before_is_state}
 use Rattle.analyser_main.proofs.PointsTold.{IsPoint}
 
 -- the rows span the states before the line

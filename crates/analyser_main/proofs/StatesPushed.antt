@@ -1,10 +1,8 @@
--- The states before each line, and the modules that they generate.
-use Rattle.std.proofs.Common.{◌≡◌, ℕ, ◌+◌, ◌*◌, ◌<◌, ◌≤◌, Bool, true, false, if◌then◌else◌, List, [], ◌∷◌, Contains, Option, Some, None, length, replicate, get_or, slice_get, slice_set, get_or-set_other, refl, ap, sym, ◌∙◌, subst, lit<, arith}
+-- The module of the states before each line, from line to line.
+use Rattle.std.proofs.Common.{◌≡◌, ℕ, ◌+◌, ◌*◌, ◌≤◌, List, [], ◌∷◌, Contains, Some, length, replicate, get_or, slice_get, slice_set, get_or-set_other, refl, ap, sym, ◌∙◌, subst, lit<, arith}
 use Rattle.std.proofs.Math.Nat.{mod-lt, mod-eq_of_lt}
-use Rattle.std.proofs.lemmas.List.Quantifiers.{position-Some}
-use Rattle.std.specs.Option.{option_map_or}
-use Rattle.word_rows.specs.Words.{IsWord, word}
-use Rattle.word_rows.specs.Rows.{IsRow, IsState, dot}
+use Rattle.word_rows.specs.Words.{word}
+use Rattle.word_rows.specs.Rows.{dot}
 use Rattle.word_rows.proofs.Laws.{IsRow-zeros, get_or-zeros}
 use Rattle.row_modules.specs.Modules.{AreRows, SameModule}
 use Rattle.affine_prog.specs.declared.Assign.{Assign}
@@ -13,83 +11,11 @@ use Rattle.module_push.specs.Images.{IsImage, Images}
 use Rattle.module_push.specs.Starts.{IsStartRow}
 use Rattle.module_push.proofs.Maps.{IsRow-set, images_same}
 use Rattle.module_push.proofs.Unions.{same_with, same_members}
-use Rattle.rv_decode.specs.declared.instructions.Instr.{Instr}
 use Rattle.analyser_main.specs.declared.lines.Line.{Line}
-use Rattle.analyser_main.specs.declared.values.Value.{Value}
-use Rattle.analyser_main.specs.declared.values.Value.TheVariants.{Linear, Unknown}
-use Rattle.analyser_main.specs.Effects.{result_of, place_of, assigned, effect_on, effect_of}
-use Rattle.analyser_main.specs.States.{IsUnused, IsStart, Makes, affine, any, MakesAll, IsStateBefore, start, step}
+use Rattle.analyser_main.specs.Effects.{effect_of}
+use Rattle.analyser_main.specs.States.{IsStart, Makes, affine, any, MakesAll, IsStateBefore, start, step}
 use Rattle.analyser_main.specs.Steps.{IsNext}
-
--- an effect is empty, or one assignment to the position of a tracked register
-abbrev place_in : Assign → ℕ
-place_in (Affine i row) = i
-place_in (Any i) = i
-
-data IsOneAtMost (registers : List ℕ) : List Assign → Type 0 where
-  none : (effect : List Assign) → effect ≡ [] → IsOneAtMost registers effect
-  one : (effect : List Assign) (assign : Assign) → effect ≡ assign ∷ [] → place_in assign < length registers → IsOneAtMost registers effect
-
-place_either : (b : Bool) (i : ℕ) (row : List ℕ) → place_in (if b then Affine i row else Any i) ≡ i
-place_either true i row = refl
-place_either false i row = refl
-
-place_assigned : (registers : List ℕ) (i : ℕ) (value : Value) → place_in (assigned registers i value) ≡ i
-place_assigned registers i (Linear f g c) = place_either _ i _
-place_assigned registers i Unknown = refl
-
-one_at_place : (registers : List ℕ) (r : ℕ) (value : Value) (place : Option ℕ) → place_of registers r ≡ place →
-    IsOneAtMost registers (option_map_or (λ i. assigned registers i value ∷ []) place [])
-one_at_place registers r value None e = none [] refl
-one_at_place registers r value (Some i) e =
-    let below = (position-Some _ registers i 0 e).0 in
-    one _ (assigned registers i value) refl (rw (place_assigned registers i value) below)
-
-one_on : (registers : List ℕ) (result : Option (ℕ × Value)) → IsOneAtMost registers (effect_on registers result)
-one_on registers None = none [] refl
-one_on registers (Some (r, value)) = one_at_place registers r value (place_of registers r) refl
-
-one_at_most : (registers : List ℕ) (a : ℕ) (instr : Instr) → IsOneAtMost registers (effect_of registers a instr)
-one_at_most registers a instr = one_on registers (result_of a instr)
-
--- an assignment sets its position to a word
-made_word : (assign : Assign) (s t : List ℕ) → Makes assign s t → (w : ℕ) × IsWord w × (t ≡ slice_set s (place_in assign) w)
-made_word assign s t (affine assign' i row s' t' is e) =
-    (dot row s, mod-lt _ (lit< tt), e ∙ ap (λ k. slice_set s k (dot row s)) (sym (ap place_in is)))
-made_word assign s t (any assign' i w s' t' is is_word e) =
-    (w, is_word, e ∙ ap (λ k. slice_set s k w) (sym (ap place_in is)))
-
-set_stays : (registers : List ℕ) (i w : ℕ) (s : List ℕ) → length registers ≤ 16 → i < length registers → IsWord w → IsStart registers s → IsStart registers (slice_set s i w)
-set_stays registers i w s few below is_word st = record {
-  state = record {
-    row = subst (λ (x : ℕ). IsRow 17 (slice_set s i x)) (mod-eq_of_lt is_word) (IsRow-set 17 i w s st.state.row);
-    constant = get_or-set_other s i 16 w 0 (λ e. omega arith) ∙ st.state.constant;
-  };
-  unused = λ k from to. get_or-set_other s i k w 0 (λ e. omega arith) ∙ st.unused k from to;
-}
-
-made_stays : (registers : List ℕ) (effect : List Assign) (s t : List ℕ) → length registers ≤ 16 → IsOneAtMost registers effect → MakesAll effect s t → IsStart registers s → IsStart registers t
-made_stays registers effect s t few (none effect' e) makes st =
-    let same : t ≡ s = subst (λ (x : List Assign). MakesAll x s t) e makes in subst (IsStart registers) (sym same) st
-made_stays registers effect s t few (one effect' assign e below) makes st =
-    let (u, made, same) = subst (λ (x : List Assign). MakesAll x s t) e makes in
-    let (w, is_word, is_set) = made_word assign s u made in
-    subst (IsStart registers) (sym (same ∙ is_set)) (set_stays registers (place_in assign) w s few below is_word st)
-
--- each state before a line is a state, and is 0 where no register stands
-before_is_start : (registers : List ℕ) (code : List Line) (i : ℕ) (s : List ℕ) → length registers ≤ 16 → IsStateBefore registers code i s → IsStart registers s
-before_is_start registers code i s few (start i' s' is_0 is_start) = is_start
-before_is_start registers code j t few (step i j' s t' line before here makes is_j) =
-    made_stays registers (effect_of registers line.address line.instr) s t few (one_at_most registers line.address line.instr) makes (before_is_start registers code i s few before)
-
-pub before_is_state : (registers : List ℕ) (code : List Line) (i : ℕ) (s : List ℕ) → length registers ≤ 16 → IsStateBefore registers code i s → IsState s
-before_is_state registers code i s few before = (before_is_start registers code i s few before).state
-
-pub before_is_unused : (registers : List ℕ) (code : List Line) (i : ℕ) (s : List ℕ) → length registers ≤ 16 → IsStateBefore registers code i s → IsUnused registers s
-before_is_unused registers code i s few before = (before_is_start registers code i s few before).unused
-
-pub before_are_rows : (registers : List ℕ) (code : List Line) (i : ℕ) → length registers ≤ 16 → AreRows 17 (IsStateBefore registers code i)
-before_are_rows registers code i few s before = (before_is_state registers code i s few before).row
+use Rattle.analyser_main.proofs.StatesBefore.{IsOneAtMost, none, one, one_at_most, before_is_state, before_are_rows}
 
 -- the start
 start_state : (registers : List ℕ) (code : List Line) (j : ℕ) (s : List ℕ) → IsStateBefore registers code j s → j ≡ 0 → IsStart registers s

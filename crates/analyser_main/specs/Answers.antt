@@ -1,6 +1,7 @@
 -- Answers: the status and the text of an order.
 --
---   IsRefused bytes status text       what every order over a file gets for bytes that are too many, or no image
+--   IsRefused bytes status text       what every order over a file gets for bytes that are too many, or no image,
+--                                     or whose code is refused for its flow
 --   IsAnswer list bytes status text   what `analyse` answers over a file with these bytes
 --   IsListing bytes status text       what `list` answers over it
 --   IsAnswerOver contents answer ..   an answer over the contents where they are told, and else over some bytes
@@ -13,36 +14,37 @@ use Rattle.outside.specs.Written.{Gains, GainsPrefix}
 use Rattle.elf_image.specs.declared.image.Image.{Image}
 use Rattle.elf_image.specs.declared.refusal.ElfRefusal.{ElfRefusal}
 use Rattle.elf_image.specs.Refusals.{refusal_of}
+use Rattle.flow_points.specs.Refusals.{IsFlowRefusal}
+use Rattle.flow_points.specs.declared.refusal.FlowRefusal.{FlowRefusal}
 use Rattle.report_text.specs.declared.reports.Report.{Report}
 use Rattle.report_text.specs.Text.{nl, text_of}
 use Rattle.analyser_main.specs.declared.lines.Line.{Line}
 use Rattle.analyser_main.specs.declared.refusals.TrackRefusal.{TrackRefusal}
 use Rattle.analyser_main.specs.Lists.{IsTrackRefusal}
-use Rattle.analyser_main.specs.Lines.{elf_line, track_line, too_long_line, not_yet_line}
-use Rattle.analyser_main.specs.Listing.{list_text}
-use Rattle.analyser_main.specs.Analysed.{most_bytes, HasColon, IsImageOf, IsCodeOf, CodeStopsAt, IsNotYet, IsAnalysed}
+use Rattle.analyser_main.specs.Lines.{elf_line, flow_line, track_line, too_long_line, not_yet_line}
+use Rattle.analyser_main.specs.Analysed.{most_bytes, HasColon, IsImageOf, IsStraightOf, IsNotYet, IsAnalysed, IsListed}
 
 pub data IsRefused (bytes : List ℕ) : ℕ → List ℕ → Type 0 where
   too_long : (status : ℕ) (text : List ℕ) → most_bytes < length bytes → status ≡ 1 → text ≡ too_long_line → IsRefused bytes status text
   no_image : (status : ℕ) (text : List ℕ) (refusal : ElfRefusal) → length bytes ≤ most_bytes → refusal_of bytes ≡ Some refusal →
       status ≡ 1 → text ≡ elf_line refusal → IsRefused bytes status text
+  bad_flow : (status : ℕ) (text : List ℕ) (image : Image) (refusal : FlowRefusal) → length bytes ≤ most_bytes → IsImageOf bytes image →
+      IsFlowRefusal image refusal → status ≡ 1 → text ≡ flow_line refusal → IsRefused bytes status text
 
 pub data IsAnswer (list bytes : List ℕ) : ℕ → List ℕ → Type 0 where
   refused : (status : ℕ) (text : List ℕ) → IsRefused bytes status text → IsAnswer list bytes status text
   not_yet : (status a : ℕ) (text : List ℕ) (image : Image) → length bytes ≤ most_bytes → IsImageOf bytes image → IsNotYet list image a →
       status ≡ 1 → text ≡ not_yet_line a → IsAnswer list bytes status text
   no_list : (status : ℕ) (text : List ℕ) (image : Image) (code : List Line) (refusal : TrackRefusal) → length bytes ≤ most_bytes →
-      IsImageOf bytes image → (HasColon list → ⊥) → IsCodeOf image code → IsTrackRefusal list refusal →
+      IsImageOf bytes image → (HasColon list → ⊥) → IsStraightOf image code → IsTrackRefusal list refusal →
       status ≡ 1 → text ≡ track_line refusal → IsAnswer list bytes status text
   analysed : (status : ℕ) (text : List ℕ) (image : Image) (report : Report) → length bytes ≤ most_bytes → IsImageOf bytes image →
       IsAnalysed list image report → status ≡ 0 → text ≡ text_of report → IsAnswer list bytes status text
 
 pub data IsListing (bytes : List ℕ) : ℕ → List ℕ → Type 0 where
   refused : (status : ℕ) (text : List ℕ) → IsRefused bytes status text → IsListing bytes status text
-  not_yet : (status a : ℕ) (text : List ℕ) (image : Image) → length bytes ≤ most_bytes → IsImageOf bytes image → CodeStopsAt image a →
-      status ≡ 1 → text ≡ not_yet_line a → IsListing bytes status text
-  listed : (status : ℕ) (text : List ℕ) (image : Image) (code : List Line) → length bytes ≤ most_bytes → IsImageOf bytes image →
-      IsCodeOf image code → status ≡ 0 → text ≡ list_text image.entry code → IsListing bytes status text
+  listed : (status : ℕ) (text : List ℕ) (image : Image) → length bytes ≤ most_bytes → IsImageOf bytes image → IsListed image text →
+      status ≡ 0 → IsListing bytes status text
 
 abbrev pub IsAnswerOver : Option (List ℕ) → (List ℕ → ℕ → List ℕ → Type 0) → ℕ → List ℕ → Type 0
 IsAnswerOver (Some bytes) answer status text = answer bytes status text

@@ -6,6 +6,7 @@ pub mod States
 pub mod Reports
 pub mod Steps
 pub mod Listing
+pub mod Turns
 pub mod Orders
 pub mod OrdersGiven
 pub mod Analysed

@@ -4,14 +4,20 @@
 --   valued name value     a refusal's name with its value
 --   refused text          the line of any other refusal
 --   elf_line refusal      the line of what an image is refused for
+--   at_address text a    the line of a refusal at an address
+--   flow_line refusal     the line of what an image's code is refused for
 --   track_line refusal    the line of what a list is refused for
 --   too_long_line, not_yet_line a
 --   IsLineOf refusal text the text is the refusal's line; want of memory has none
 use Rattle.std.specs.Prelude.{◌≡◌, ℕ, List, [], ◌++◌, codes}
-use Rattle.number_text.specs.Numerals.{dec, hex}
+use Rattle.number_text.specs.Numerals.{dec, hex, hex8}
+use Rattle.rv_decode.specs.Registers.{name_of_register}
 use Rattle.report_text.specs.Text.{nl}
 use Rattle.elf_image.specs.declared.refusal.ElfRefusal.{ElfRefusal}
 use Rattle.elf_image.specs.declared.refusal.ElfRefusal.TheVariants.{Short, NotElf, NotClass64, NotLittle, NotExec, NotRiscv, Rve, Compressed, BadHeaderTable, Dynamic, BadSegment, TooManySegments, Overlap, NoCode, Memory}
+use Rattle.flow_points.specs.declared.refusal.FlowRefusal as flows
+use Rattle.flow_points.specs.declared.refusal.FlowRefusal.{FlowRefusal}
+use Rattle.flow_points.specs.declared.refusal.FlowRefusal.TheVariants.{TooManyPoints, OutsideCode, NoInstruction, OddLink, IndirectJump, MisalignedTarget, IntoPair}
 use Rattle.analyser_main.specs.declared.refusals.Refusal as refusals
 use Rattle.analyser_main.specs.declared.refusals.Refusal.{Refusal}
 use Rattle.analyser_main.specs.declared.refusals.TrackRefusal.{TrackRefusal}
@@ -44,6 +50,20 @@ elf_line Memory = []
 abbrev pub refused : List ℕ → List ℕ
 refused text = codes "refused " ++ text ++ nl
 
+abbrev pub at_address : List ℕ → ℕ → List ℕ
+at_address text a = refused (text ++ codes " at " ++ hex a)
+
+-- nor is its code
+abbrev pub flow_line : FlowRefusal → List ℕ
+flow_line (TooManyPoints limit) = refused (valued (codes "TooManyPoints") (dec limit))
+flow_line (OutsideCode a) = at_address (codes "OutsideCode") a
+flow_line (NoInstruction a word) = at_address (valued (codes "NoInstruction") (hex8 word)) a
+flow_line (OddLink a register) = at_address (valued (codes "OddLink") (name_of_register register)) a
+flow_line (IndirectJump a register) = at_address (valued (codes "IndirectJump") (name_of_register register)) a
+flow_line (MisalignedTarget a target) = at_address (valued (codes "MisalignedTarget") (hex target)) a
+flow_line (IntoPair a) = at_address (codes "IntoPair") a
+flow_line flows.TheVariants.Memory = []
+
 abbrev pub track_line : TrackRefusal → List ℕ
 track_line Empty = refused (codes "Empty")
 track_line (TooMany limit) = refused (valued (codes "TooMany") (dec limit))
@@ -58,6 +78,7 @@ not_yet_line a = refused (codes "NotYet at " ++ hex a)
 
 abbrev pub IsLineOf : Refusal → List ℕ → Type 0
 IsLineOf (refusals.TheVariants.Elf refusal) text = text ≡ elf_line refusal
+IsLineOf (refusals.TheVariants.Flow refusal) text = text ≡ flow_line refusal
 IsLineOf (refusals.TheVariants.NotYet a) text = text ≡ not_yet_line a
 IsLineOf (refusals.TheVariants.Track refusal) text = text ≡ track_line refusal
 IsLineOf refusals.TheVariants.Memory text = ⊥

@@ -1,16 +1,22 @@
--- The list of straight code, as text.
+-- The list of points, as text.
 --
---   line_text line            the address, the word and the instruction of a line
---   list_text entry code      the whole text
-use Rattle.std.specs.Prelude.{ℕ, List, ◌++◌, codes}
-use Rattle.std.specs.List.{flat_map}
+--   code_text code              the address, the word and the instruction of a point
+--   codes_text before points    the points, each procedure's line before its first point; before is the
+--                               procedure of the point before them
+--   list_text points            the whole text
+use Rattle.std.specs.Prelude.{ℕ, List, [], ◌∷◌, ◌++◌, Option, Some, None, codes}
 use Rattle.number_text.specs.Numerals.{hex, hex8}
 use Rattle.rv_text.specs.Text.{instr_text}
-use Rattle.report_text.specs.Text.{nl, proc_text}
-use Rattle.analyser_main.specs.declared.lines.Line.{Line}
+use Rattle.report_text.specs.Text.{nl, opening_text}
+use Rattle.flow_points.specs.declared.steps.CodePoint.{CodePoint}
 
-abbrev pub line_text : Line → List ℕ
-line_text line = hex line.address ++ codes " " ++ hex8 line.word ++ codes " " ++ instr_text line.instr ++ nl
+abbrev pub code_text : CodePoint → List ℕ
+code_text code = hex code.point.address ++ codes " " ++ hex8 code.word ++ codes " " ++ instr_text code.instr ++ nl
 
-abbrev pub list_text : ℕ → List Line → List ℕ
-list_text entry code = codes "affine-list 1" ++ nl ++ proc_text entry ++ flat_map line_text code ++ codes "end" ++ nl
+abbrev pub codes_text : Option ℕ → List CodePoint → List ℕ
+codes_text before [] = []
+codes_text before (code ∷ points) =
+    opening_text before code.point.proc_entry ++ code_text code ++ codes_text (Some code.point.proc_entry) points
+
+abbrev pub list_text : List CodePoint → List ℕ
+list_text points = codes "affine-list 1" ++ nl ++ codes_text None points ++ codes "end" ++ nl

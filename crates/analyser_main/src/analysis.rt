@@ -1,10 +1,9 @@
 //! The report, and the list, for the bytes of a file.
 
 ghost use Rattle.std.specs.Prelude.{◌≡◌, ◌<◌, ◌↔◌, All, AllPairs, IsTrue, MatchResult};
-ghost use Rattle.elf_image.specs.Images.{code_word};
 ghost use Rattle.rv_decode.specs.Instructions.{IsWellFormed};
-ghost use Rattle.analyser_main.specs.Analysed.{HasColon, IsImageOf, IsCodeOf, IsAnalysed, IsListed, WithImage};
-ghost use Rattle.analyser_main.specs.Refusals.{IsCodeRefusal, IsImageRefusal, IsReportRefusal, IsRefusalOver};
+ghost use Rattle.analyser_main.specs.Analysed.{HasColon, HasPoints, IsImageOf, IsCodeOf, IsAnalysed, IsListed, WithImage};
+ghost use Rattle.analyser_main.specs.Refusals.{IsImageRefusal, IsPointsRefusal, IsReportRefusal, IsRefusalOver};
 
 use crate::lines::Line;
 use crate::listing::write_list;
@@ -12,7 +11,9 @@ use crate::lists::read_registers;
 use crate::refusals::Refusal;
 use crate::reports::report_of;
 use crate::straight::straight_code;
+use crate::turns::first_turn;
 use elf_image::{ElfRefusal, Image, read_image};
+use flow_points::{FlowRefusal, Points, recover};
 use report_text::Report;
 use rv_decode::laws::table_is_one_to_one;
 use std::alloc::Global;
@@ -28,10 +29,10 @@ pub fn analyse(alloc: Global, bytes: &[u8], list: &str) -> Result<Report, Refusa
     }
 }
 
-/// The list of the code in the bytes of a file, as text.
+/// The list of the points in the bytes of a file, as text.
 pub fn list_code(alloc: Global, bytes: &[u8]) -> Result<Vec<u8>, Refusal>
     ensures { MatchResult result (λ text. WithImage bytes.now (λ image. IsListed image text.items))
-        (IsRefusalOver bytes.now (λ image. IsCodeRefusal (code_word image) image.entry)) }
+        (IsRefusalOver bytes.now IsPointsRefusal) }
 {
     match image_of(alloc, bytes) {
         Ok(image) => image_list(alloc, &image),
@@ -52,8 +53,46 @@ fn image_of(alloc: Global, bytes: &[u8]) -> Result<Image, Refusal>
 fn image_report(alloc: Global, image: &Image, list: &str) -> Result<Report, Refusal>
     ensures { MatchResult result (IsAnalysed list.now image.now) (IsReportRefusal list.now image.now) }
 {
+    match points_of(alloc, image) {
+        Ok(points) => points_report(alloc, image, &points, list),
+        Err(refusal) => Err(refusal),
+    }
+}
+
+fn image_list(alloc: Global, image: &Image) -> Result<Vec<u8>, Refusal>
+    ensures { MatchResult result (λ text. IsListed image.now text.items) (IsPointsRefusal image.now) }
+{
+    match points_of(alloc, image) {
+        Ok(points) => Ok(write_list(alloc, &points)?),
+        Err(refusal) => Err(refusal),
+    }
+}
+
+fn points_of(alloc: Global, image: &Image) -> Result<Points, Refusal>
+    ensures { MatchResult result (HasPoints image.now) (IsPointsRefusal image.now) }
+{
+    match recover(alloc, image) {
+        Ok(points) => Ok(points),
+        Err(FlowRefusal::Memory) => Err(Refusal::Memory),
+        Err(refusal) => Err(Refusal::Flow(refusal)),
+    }
+}
+
+// The report, where the image has these points.
+fn points_report(
+    alloc: Global,
+    image: &Image,
+    points: &Points,
+    list: &str,
+) -> Result<Report, Refusal>
+    requires { HasPoints image.now points.now }
+    ensures { MatchResult result (IsAnalysed list.now image.now) (IsReportRefusal list.now image.now) }
+{
     if has_colon(list) {
         return Err(Refusal::NotYet(0));
+    }
+    if let Some(address) = first_turn(points) {
+        return Err(Refusal::NotYet(address));
     }
     let code = match straight_code(alloc, image) {
         Ok(code) => code,
@@ -65,19 +104,6 @@ fn image_report(alloc: Global, image: &Image, list: &str) -> Result<Report, Refu
     };
     known_lines(image, code.as_slice());
     report_of(alloc, image.entry, registers.as_slice(), code.as_slice())
-}
-
-fn image_list(alloc: Global, image: &Image) -> Result<Vec<u8>, Refusal>
-    ensures { MatchResult result (λ text. IsListed image.now text.items)
-        (IsCodeRefusal (code_word image.now) image.now.entry) }
-{
-    match straight_code(alloc, image) {
-        Ok(code) => {
-            known_lines(image, code.as_slice());
-            Ok(write_list(alloc, image.entry, code.as_slice())?)
-        }
-        Err(refusal) => Err(refusal),
-    }
 }
 
 fn has_colon(list: &str) -> bool

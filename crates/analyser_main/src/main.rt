@@ -2,9 +2,10 @@
 //!
 //! `analyse FILE --track LIST` prints, for each instruction of straight code in an ELF file, rows that
 //! generate all affine relations modulo 2^64 that hold there between 1 to 16 registers and a constant.
-//! `list FILE` prints the instructions. `affine_main` takes the words after the program's name, files to
-//! read and a sink for the text, and gives the exit status: its clauses say which text the sink gains,
-//! and why each status comes. `main` calls it over the system's files and standard output.
+//! `list FILE` prints the instructions that may be reached, whatever the code is. `affine_main` takes
+//! the words after the program's name, files to read and a sink for the text, and gives the exit status:
+//! its clauses say which text the sink gains, and why each status comes. `main` calls it over the
+//! system's files and standard output.
 //!
 //! ```text
 //! analyser_main analyse one_register.elf --track a0
@@ -14,6 +15,7 @@
 mod affine;
 mod analysis;
 mod answers;
+mod codes;
 mod effects;
 mod lines;
 mod listing;
@@ -27,6 +29,7 @@ mod reports;
 mod straight;
 #[cfg(test)]
 mod tests;
+mod turns;
 mod values;
 
 use crate::affine::{affine_main, want_of_memory};

@@ -1,13 +1,17 @@
 //! The lines of refusals.
 
 ghost use Rattle.std.specs.Prelude.{◌≡◌, IfOk};
-ghost use Rattle.number_text.specs.Numerals.{dec, hex};
+ghost use Rattle.number_text.specs.Numerals.{dec, hex, hex8};
+ghost use Rattle.rv_decode.specs.Registers.{name_of_register};
 ghost use Rattle.elf_image.specs.declared.refusal.ElfRefusal.TheVariants.{NoCode};
-ghost use Rattle.analyser_main.specs.Lines.{at_offset, valued, elf_line, refused, track_line, too_long_line, not_yet_line, IsLineOf};
+ghost use Rattle.flow_points.specs.declared.refusal.FlowRefusal.TheVariants.{NoInstruction, MisalignedTarget};
+ghost use Rattle.analyser_main.specs.Lines.{at_offset, at_address, valued, elf_line, flow_line, refused, track_line, too_long_line, not_yet_line, IsLineOf};
 
 use crate::refusals::{Refusal, TrackRefusal};
 use elf_image::ElfRefusal;
-use number_text::{push_dec, push_hex};
+use flow_points::FlowRefusal;
+use number_text::{push_dec, push_hex, push_hex8};
+use rv_decode::register_name;
 use std::alloc::{AllocError, Global};
 
 /// The line of a refusal.
@@ -16,6 +20,7 @@ pub fn refusal_line(alloc: Global, refusal: Refusal) -> Result<Vec<u8>, AllocErr
 {
     match refusal {
         Refusal::Elf(refusal) => elf_line(alloc, refusal),
+        Refusal::Flow(refusal) => flow_line(alloc, refusal),
         Refusal::NotYet(address) => not_yet_line(alloc, address),
         Refusal::Track(refusal) => track_line(alloc, refusal),
         Refusal::Memory => Err(AllocError),
@@ -133,4 +138,78 @@ fn no_code_line(alloc: Global, entry: u64, offset: u64) -> Result<Vec<u8>, Alloc
     let mut text = Vec::from_slice(alloc, b"NoCode ")?;
     push_hex(&mut text, entry)?;
     plain_line(alloc, &text, offset)
+}
+
+fn flow_line(alloc: Global, refusal: FlowRefusal) -> Result<Vec<u8>, AllocError>
+    ensures { IfOk result (λ line. line.items ≡ flow_line refusal) }
+{
+    match refusal {
+        FlowRefusal::TooManyPoints(limit) => list_line(alloc, b"TooManyPoints", u64::from(limit)),
+        FlowRefusal::OutsideCode(address) => address_line(alloc, b"OutsideCode", address),
+        FlowRefusal::NoInstruction(address, word) => no_instruction_line(alloc, address, word),
+        FlowRefusal::OddLink(address, register) => register_line(
+            alloc, b"OddLink", register, address,
+        ),
+        FlowRefusal::IndirectJump(address, register) => register_line(
+            alloc,
+            b"IndirectJump",
+            register,
+            address,
+        ),
+        FlowRefusal::MisalignedTarget(address, target) => target_line(alloc, address, target),
+        FlowRefusal::IntoPair(address) => address_line(alloc, b"IntoPair", address),
+        FlowRefusal::Memory => Err(AllocError),
+    }
+}
+
+fn address_line(alloc: Global, text: &[u8], address: u64) -> Result<Vec<u8>, AllocError>
+    ensures { IfOk result (λ line. line.items ≡ at_address text.now address) }
+{
+    let mut line = Vec::from_slice(alloc, b"refused ")?;
+    line.extend_from_slice(text)?;
+    line.extend_from_slice(b" at ")?;
+    push_hex(&mut line, address)?;
+    line.extend_from_slice(b"\n")?;
+    Ok(line)
+}
+
+fn register_line(
+    alloc: Global,
+    name: &[u8],
+    register: u8,
+    address: u64,
+) -> Result<Vec<u8>, AllocError>
+    ensures { IfOk result (λ line. line.items ≡ at_address (valued name.now (name_of_register register)) address) }
+{
+    let mut text = Vec::from_slice(alloc, name)?;
+    text.extend_from_slice(b" ")?;
+    text.extend_from_slice(name_of(register).as_bytes())?;
+    address_line(alloc, &text, address)
+}
+
+// The name of a register; a number that no register has, has none.
+fn name_of(register: u8) -> &'static str
+    ensures { result.now ≡ name_of_register register }
+{
+    if register < 32 {
+        register_name(register)
+    } else {
+        ""
+    }
+}
+
+fn no_instruction_line(alloc: Global, address: u64, word: u32) -> Result<Vec<u8>, AllocError>
+    ensures { IfOk result (λ line. line.items ≡ flow_line (NoInstruction address word)) }
+{
+    let mut text = Vec::from_slice(alloc, b"NoInstruction ")?;
+    push_hex8(&mut text, word)?;
+    address_line(alloc, &text, address)
+}
+
+fn target_line(alloc: Global, address: u64, target: u64) -> Result<Vec<u8>, AllocError>
+    ensures { IfOk result (λ line. line.items ≡ flow_line (MisalignedTarget address target)) }
+{
+    let mut text = Vec::from_slice(alloc, b"MisalignedTarget ")?;
+    push_hex(&mut text, target)?;
+    address_line(alloc, &text, address)
 }

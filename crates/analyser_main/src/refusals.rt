@@ -4,6 +4,7 @@ ghost use Rattle.std.specs.Prelude.{◌≡◌};
 ghost use Rattle.analyser_main.specs.declared.refusals.Refusal.TheVariants.{Memory};
 
 use elf_image::ElfRefusal;
+use flow_points::FlowRefusal;
 use std::alloc::AllocError;
 
 /// Why there is no report or list, in the order in which they are looked for.
@@ -11,6 +12,8 @@ use std::alloc::AllocError;
 pub enum Refusal {
     /// The bytes are no image.
     Elf(ElfRefusal),
+    /// The image's code is refused for its flow.
+    Flow(FlowRefusal),
     /// The analysis of this isn't there yet, at this address.
     NotYet(u64),
     /// The list isn't one of tracked registers.

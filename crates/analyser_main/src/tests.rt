@@ -225,11 +225,11 @@ fn orders_get_their_texts(rt: HostRuntime) -> Result<(), Fail> {
             assert_eq!(rt; written.as_slice(), text.as_bytes(), "{order}");
         }
     }
-    // Code that isn't straight.
+    // Code that is refused.
     for (code, text) in [
-        ([0x00000513, 0x0080006F], "refused NotYet at 0x1007c\n"),
-        ([0x00000513, 0x00000513], "refused NotYet at 0x10080\n"),
-        ([0, EBREAK], "refused NotYet at 0x10078\n"),
+        ([0x00000513, 0x0080006F], "refused OutsideCode at 0x10084\n"),
+        ([0x00000513, 0x00000513], "refused OutsideCode at 0x10080\n"),
+        ([0, EBREAK], "refused NoInstruction 00000000 at 0x10078\n"),
     ] {
         for order in ["list f", "analyse f --track a0"] {
             let (status, written) = answer_to(alloc, order, small_file(alloc, &code)?, 4096)?;
@@ -237,6 +237,61 @@ fn orders_get_their_texts(rt: HostRuntime) -> Result<(), Fail> {
             assert_eq!(rt; written.as_slice(), text.as_bytes());
         }
     }
+    Ok(())
+}
+
+const CALL: [u32; 4] = [0x00000097, 0x00c080e7, EBREAK, 0x00008067];
+
+const CALL_LIST: &str =
+    "affine-list 1\nproc 0x10078\n0x10078 00000097 auipc ra,0x0\n0x1007c 00c080e7 jalr ra,12(ra)\n0x10080 00100073 ebreak\nproc 0x10084\n0x10084 00008067 jalr zero,0(ra)\nend\n";
+
+#[test]
+fn flow_of_files(rt: HostRuntime) -> Result<(), Fail> {
+    let alloc = rt.alloc();
+    let many = vec![in alloc; 0x00050513; 4095]?;
+    let mut too_many = vec![in alloc; 0x00050513; 4096]?;
+    too_many.push(EBREAK)?;
+    let cases: [(&[u32], u8, &str); 7] = [
+        (&CALL, 0, CALL_LIST),
+        // jal ra,12; jalr zero,0(t0); ebreak; jalr zero,0(t1)
+        (
+            &[0x00c000ef, 0x00028067, EBREAK, 0x00030067],
+            1,
+            "refused IndirectJump t0 at 0x1007c\n",
+        ),
+        // jal t0,8
+        (&[0x008002ef], 1, "refused OddLink t0 at 0x10078\n"),
+        // jal zero,2
+        (
+            &[0x0020006f],
+            1,
+            "refused MisalignedTarget 0x1007a at 0x10078\n",
+        ),
+        // beq a0,zero,8 before a pair
+        (
+            &[0x00050463, 0x00000097, 0x00c080e7, EBREAK, 0x00008067],
+            1,
+            "refused IntoPair at 0x10080\n",
+        ),
+        (&too_many, 1, "refused TooManyPoints 4096\n"),
+        (&many, 1, "refused OutsideCode at 0x14074\n"),
+    ];
+    for (code, status, text) in cases {
+        let (answer, written) = answer_to(alloc, "list f", small_file(alloc, code)?, 4096)?;
+        assert_eq!(rt; answer, status, "{text}");
+        assert_eq!(rt; written.as_slice(), text.as_bytes(), "{text}");
+    }
+    let (answer, written) = answer_to(
+        alloc,
+        "analyse f --track ra",
+        small_file(alloc, &CALL)?,
+        4096,
+    )?;
+    assert_eq!(rt; answer, 1);
+    assert_eq!(rt;
+        written.as_slice(),
+        b"refused NotYet at 0x1007c\n".as_slice()
+    );
     Ok(())
 }
 

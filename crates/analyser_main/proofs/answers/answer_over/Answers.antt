@@ -2,20 +2,22 @@ use Rattle.std.proofs.Common.{◌≤◌, ℕ, List, length, refl}
 use Rattle.report_text.specs.declared.reports.Report.{Report}
 use Rattle.report_text.specs.Text.{text_of}
 use Rattle.analyser_main.specs.declared.refusals.Refusal.{Refusal}
-use Rattle.analyser_main.specs.declared.refusals.Refusal.TheVariants.{Elf, NotYet, Track, Memory}
+use Rattle.analyser_main.specs.declared.refusals.Refusal.TheVariants.{Elf, Flow, NotYet, Track, Memory}
 use Rattle.analyser_main.specs.Analysed.{most_bytes, WithImage, IsAnalysed}
 use Rattle.analyser_main.specs.Lines.{IsLineOf}
 use Rattle.analyser_main.specs.Refusals.{IsReportRefusal, IsRefusalOver}
 use Rattle.analyser_main.specs.Answers as answers
-use Rattle.analyser_main.specs.Answers.{no_image, no_list, analysed, IsAnswer}
+use Rattle.analyser_main.specs.Answers.{no_image, bad_flow, no_list, analysed, IsAnswer}
 use Rattle.analyser_main.proofs.answers.answer_over.Goals as goal
 
 answer_refused : (list bytes : List ℕ) (refusal : Refusal) (text : List ℕ) → length bytes ≤ most_bytes →
     IsRefusalOver bytes (IsReportRefusal list) refusal → IsLineOf refusal text → IsAnswer list bytes 1 text
 answer_refused list bytes (Elf refusal) text short is line = answers.IsAnswer.refused 1 text (no_image 1 text refusal short is refl line)
+answer_refused list bytes (Flow refusal) text short is line =
+    answers.IsAnswer.refused 1 text (bad_flow 1 text is.0 refusal short is.1 is.2 refl line)
 answer_refused list bytes (NotYet a) text short is line = answers.IsAnswer.not_yet 1 a text is.0 short is.1 is.2 refl line
 answer_refused list bytes (Track refusal) text short is line =
-    no_list 1 text is.0 is.2.code refusal short is.1 is.2.no_colon is.2.is_code is.2.refused refl line
+    no_list 1 text is.0 is.2.code refusal short is.1 is.2.no_colon is.2.is_straight is.2.refused refl line
 answer_refused list bytes Memory text short is line = absurd line
 
 answer_analysed : (list bytes : List ℕ) (report : Report) → length bytes ≤ most_bytes → WithImage bytes (λ image. IsAnalysed list image report) →

@@ -1,7 +1,7 @@
 use Rattle.std.proofs.Common.{◌≢◌, ◌≤◌, ℕ, List, [], Result, Ok, Err, length, refl, ap, arith}
 use Rattle.std.specs.Prelude.{MatchResult}
 use Rattle.analyser_main.specs.declared.refusals.Refusal.{Refusal}
-use Rattle.analyser_main.specs.declared.refusals.Refusal.TheVariants.{Elf, NotYet, Track, Memory}
+use Rattle.analyser_main.specs.declared.refusals.Refusal.TheVariants.{Elf, Flow, NotYet, Track, Memory}
 use Rattle.analyser_main.specs.Lists.{items_of, AreNames, IsTracked, empty, too_many, bad_item}
 use Rattle.analyser_main.specs.Refusals.{IsNameRefusal, IsListRefusal}
 use Rattle.analyser_main.proofs.NamesInOrder.{empty_from, some_from, length-texts}
@@ -9,6 +9,7 @@ use Rattle.analyser_main.proofs.lists.read_registers.Goals as goal
 
 refused : (text : List ℕ) (refusal : Refusal) → text ≢ [] → length (items_of text) ≤ 16 → IsNameRefusal (items_of text) refusal → IsListRefusal text refusal
 refused text (Elf e) some few is = is
+refused text (Flow refusal) some few is = absurd is
 refused text (NotYet a) some few is = is
 refused text (Track r) some few is = bad_item r some few is
 refused text Memory some few is = tt

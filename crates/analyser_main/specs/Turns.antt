@@ -1,0 +1,24 @@
+-- Points from which the flow may go elsewhere than to the next instruction.
+--
+--   Turns flow              the flow neither goes on to the next instruction alone nor stops
+--   HasNoTurn points        no point has such a flow
+--   IsFirstTurn points a    a point with such a flow has the address a, and none has a lower one
+use Rattle.std.specs.Prelude.{◌≡◌, ℕ, ◌≤◌, List, All, Contains}
+use Rattle.flow_points.specs.declared.steps.CodePoint.{CodePoint}
+use Rattle.flow_points.specs.declared.steps.Flow.{Flow}
+use Rattle.flow_points.specs.declared.steps.Flow.TheVariants.{Next, Halt}
+
+abbrev pub Turns : Flow → Type 0
+Turns (Next next) = ⊥
+Turns Halt = ⊥
+Turns flow = Unit {0}
+
+abbrev pub HasNoTurn : List CodePoint → Type 0
+HasNoTurn points = All (λ code. Turns code.flow → ⊥) points
+
+pub record IsFirstTurn (points : List CodePoint) (a : ℕ) : Type 0 where
+  pub code : CodePoint
+  pub there : Contains points code
+  pub turns : Turns code.flow
+  pub address : code.point.address ≡ a
+  pub least : All (λ other. Turns other.flow → a ≤ other.point.address) points
