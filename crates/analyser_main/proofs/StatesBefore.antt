@@ -14,7 +14,7 @@ use Rattle.analyser_main.specs.declared.lines.Line.{Line}
 use Rattle.analyser_main.specs.declared.values.Value.{Value}
 use Rattle.analyser_main.specs.declared.values.Value.TheVariants.{Linear, Unknown}
 use Rattle.analyser_main.specs.Effects.{result_of, place_of, assigned, effect_on, effect_of}
-use Rattle.analyser_main.specs.States.{IsUnused, IsStart, Makes, affine, any, MakesAll, IsStateBefore, start, step}
+use Rattle.analyser_main.specs.States.{IsStart, Makes, affine, any, MakesAll, IsStateBefore, start, step}
 
 -- an effect is empty, or one assignment to the position of a tracked register
 abbrev place_in : Assign → ℕ
@@ -79,9 +79,6 @@ before_is_start registers code j t few (step i j' s t' line before here makes is
 
 pub before_is_state : (registers : List ℕ) (code : List Line) (i : ℕ) (s : List ℕ) → length registers ≤ 16 → IsStateBefore registers code i s → IsState s
 before_is_state registers code i s few before = (before_is_start registers code i s few before).state
-
-pub before_is_unused : (registers : List ℕ) (code : List Line) (i : ℕ) (s : List ℕ) → length registers ≤ 16 → IsStateBefore registers code i s → IsUnused registers s
-before_is_unused registers code i s few before = (before_is_start registers code i s few before).unused
 
 pub before_are_rows : (registers : List ℕ) (code : List Line) (i : ℕ) → length registers ≤ 16 → AreRows 17 (IsStateBefore registers code i)
 before_are_rows registers code i few s before = (before_is_state registers code i s few before).row

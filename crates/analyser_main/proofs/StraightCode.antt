@@ -13,9 +13,6 @@ pub record IsFront (fetch : ℕ → Option ℕ) (entry a : ℕ) (front : List Li
   pub straight : (rest : List Line) → IsStraight fetch a rest → IsStraight fetch entry (front ++ rest)
   pub stops : (stop : ℕ) → StopsAt fetch a stop → StopsAt fetch entry stop
 
-pub front_none : (fetch : ℕ → Option ℕ) (entry : ℕ) → IsFront fetch entry entry []
-front_none fetch entry = record { straight = λ rest s. s; stops = λ stop s. s }
-
 pub front_more : (fetch : ℕ → Option ℕ) (entry a : ℕ) (front : List Line) (l : Line) → l.address ≡ a → IsFetched fetch l → IsTaken l.instr →
     IsFront fetch entry a front → IsFront fetch entry (a + 4) (front ++ l ∷ [])
 front_more fetch entry a front l at there taken f = record {
