@@ -1,18 +1,17 @@
--- Which instructions have a flow that turns.
-use Rattle.std.proofs.Common.{◌≡◌, ℕ, ◌%◌, ◌==◌, ◌⊎◌, inl, inr, Bool, true, false, ◌&&◌, ◌||◌, ℤ, pos, if◌then◌else◌, Option, Some, None, Ok, Err, refl, sym, subst}
+-- A flow that goes on goes on at the next address.
+use Rattle.std.proofs.Common.{◌≡◌, ℕ, ◌%◌, ◌==◌, Bool, true, false, ◌&&◌, ◌||◌, ℤ, pos, if◌then◌else◌, Option, Some, None, Ok, Err, sym, subst}
 use Rattle.std.specs.Ordering.{int_eq}
 use Rattle.rv_decode.specs.declared.instructions.Instr.{Instr}
 use Rattle.rv_decode.specs.declared.instructions.Instr.TheVariants.{Lui, Auipc, Jal, Jalr, Branch as BranchInstr, Load, Store, Imm, Shift, Reg, Fence, Ecall, Ebreak}
-use Rattle.flow_points.specs.Flows.{flow_of, aligned, linked, indirect, next, plus, pair_target}
+use Rattle.flow_points.specs.Flows.{HasFlow, outside, unknown, known, flow_of, aligned, linked, indirect, next, plus, pair_target}
 use Rattle.flow_points.specs.declared.steps.Flow.{Flow}
 use Rattle.flow_points.specs.declared.steps.Flow.TheVariants.{Next, Jump, Branch, Call, Return}
 use Rattle.flow_points.specs.declared.refusal.FlowRefusal.{FlowRefusal}
 use Rattle.flow_points.specs.declared.refusal.FlowRefusal.TheVariants.{OddLink, IndirectJump, MisalignedTarget}
-use Rattle.analyser_main.specs.Code.{IsTaken}
 use Rattle.analyser_main.specs.Turns.{Turns}
 
 -- what a jump or a call gives
-pub one_of : (b : Bool) (flow f : Flow) (e : FlowRefusal) → Ok f ≡ (if b then Ok flow else Err e) → f ≡ flow
+one_of : (b : Bool) (flow f : Flow) (e : FlowRefusal) → Ok f ≡ (if b then Ok flow else Err e) → f ≡ flow
 one_of true flow f e h = cc
 one_of false flow f e h = cc
 
@@ -38,34 +37,24 @@ branch_turns : (a target : ℕ) (f : Flow) → Ok f ≡ aligned a target (Branch
 branch_turns a target f h =
     subst Turns (sym (one_of (target % 4 == 0) (Branch (next a) target) f (MisalignedTarget a target) h)) tt
 
--- an instruction whose flow doesn't turn may stand in straight code
-pub goes_on : (a : ℕ) (upper : Option ℕ) (i : Instr) (f : Flow) → Ok f ≡ flow_of a upper i → (Turns f → ⊥) → IsTaken i ⊎ (i ≡ Ebreak)
-goes_on a upper (Jal rd off) f h still = absurd (still (linked_turns a rd (plus a off) f h))
-goes_on a upper (BranchInstr op rs1 rs2 off) f h still = absurd (still (branch_turns a (plus a off) f h))
-goes_on a (Some upper) (Jalr rd rs1 imm) f h still = absurd (still (linked_turns a rd (pair_target a upper imm) f h))
-goes_on a None (Jalr rd rs1 imm) f h still = absurd (still (indirect_turns a rd rs1 imm f h))
-goes_on a upper Ebreak f h still = inr refl
-goes_on a upper (Lui rd imm) f h still = inl tt
-goes_on a upper (Auipc rd imm) f h still = inl tt
-goes_on a upper (Load op rd rs1 imm) f h still = inl tt
-goes_on a upper (Store op rs1 rs2 imm) f h still = inl tt
-goes_on a upper (Imm op rd rs1 imm) f h still = inl tt
-goes_on a upper (Shift op rd rs1 by) f h still = inl tt
-goes_on a upper (Reg op rd rs1 rs2) f h still = inl tt
-goes_on a upper (Fence rd rs1 imm) f h still = inl tt
-goes_on a upper Ecall f h still = inl tt
+-- the address behind the instruction is the one at which a flow that goes on does so
+flow_next : (a : ℕ) (upper : Option ℕ) (i : Instr) (q : ℕ) → Ok (Next q) ≡ flow_of a upper i → q ≡ next a
+flow_next a upper (Jal rd off) q h = absurd (linked_turns a rd (plus a off) (Next q) h)
+flow_next a upper (BranchInstr op rs1 rs2 off) q h = absurd (branch_turns a (plus a off) (Next q) h)
+flow_next a (Some upper) (Jalr rd rs1 imm) q h = absurd (linked_turns a rd (pair_target a upper imm) (Next q) h)
+flow_next a None (Jalr rd rs1 imm) q h = absurd (indirect_turns a rd rs1 imm (Next q) h)
+flow_next a upper Ebreak q h = cc
+flow_next a upper (Lui rd imm) q h = cc
+flow_next a upper (Auipc rd imm) q h = cc
+flow_next a upper (Load op rd rs1 imm) q h = cc
+flow_next a upper (Store op rs1 rs2 imm) q h = cc
+flow_next a upper (Imm op rd rs1 imm) q h = cc
+flow_next a upper (Shift op rd rs1 by) q h = cc
+flow_next a upper (Reg op rd rs1 rs2) q h = cc
+flow_next a upper (Fence rd rs1 imm) q h = cc
+flow_next a upper Ecall q h = cc
 
-pub taken_goes_next : (a : ℕ) (upper : Option ℕ) (i : Instr) → IsTaken i → flow_of a upper i ≡ Ok (Next (next a))
-taken_goes_next a upper (Jal rd off) taken = absurd taken
-taken_goes_next a upper (BranchInstr op rs1 rs2 off) taken = absurd taken
-taken_goes_next a upper (Jalr rd rs1 imm) taken = absurd taken
-taken_goes_next a upper Ebreak taken = absurd taken
-taken_goes_next a upper (Lui rd imm) taken = refl
-taken_goes_next a upper (Auipc rd imm) taken = refl
-taken_goes_next a upper (Load op rd rs1 imm) taken = refl
-taken_goes_next a upper (Store op rs1 rs2 imm) taken = refl
-taken_goes_next a upper (Imm op rd rs1 imm) taken = refl
-taken_goes_next a upper (Shift op rd rs1 by) taken = refl
-taken_goes_next a upper (Reg op rd rs1 rs2) taken = refl
-taken_goes_next a upper (Fence rd rs1 imm) taken = refl
-taken_goes_next a upper Ecall taken = refl
+pub goes_next : (fetch : ℕ → Option ℕ) (a q : ℕ) → HasFlow fetch a (Next q) → q ≡ next a
+goes_next fetch a q (outside none is) = cc
+goes_next fetch a q (unknown word fetched none is) = cc
+goes_next fetch a q (known instr upper has half is) = flow_next a upper instr q is

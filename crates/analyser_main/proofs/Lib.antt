@@ -1,9 +1,8 @@
-mod StraightCode
-mod StraightLaws
 mod NamesInOrder
 mod RegistersNamed
 mod VisibleBits
-mod StatesBefore
+mod StatesThere
+mod StatesMade
 mod StatesPushed
 mod PointsTold
 mod RelationsTold
@@ -14,4 +13,6 @@ mod NoFault
 mod PointsListed
 mod FirstTurn
 mod FlowGoesOn
-mod PastTheEnd
+mod StraightFlow
+mod StraightOrder
+mod StraightEntry

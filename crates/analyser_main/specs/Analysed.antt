@@ -4,23 +4,17 @@
 --   HasColon list                 the list has an item with a colon
 --   IsImageOf bytes image         the bytes are accepted, and this is their image
 --   WithImage bytes P             so they are, and P holds of their image
---   IsCodeOf image code           the code of the image from its entry on is straight, and this is it
---   RunsPast image a              straight code goes on past the last address; a is where it stops, wrapped
 --   HasPoints image points        the image's code isn't refused for its flow, and these are its points
---   IsStraightOf image code       it isn't, no flow turns, and the code of the image is this
+--   IsStraight image points       so it is, and no flow turns
 --   IsNotYet list image a         the analysis of these isn't there yet, at the address a
 --   IsAnalysed list image report  the list names registers, and the report is that of the image's code
 --   IsListed image text           the text is the list of the image's points
-use Rattle.std.specs.Prelude.{◌≡◌, ℕ, ◌^◌, ◌≤◌, List, Contains}
-use Rattle.word_rows.specs.Words.{word}
+use Rattle.std.specs.Prelude.{◌≡◌, ℕ, ◌^◌, List, Contains}
 use Rattle.elf_image.specs.declared.image.Image.{Image}
-use Rattle.elf_image.specs.Images.{code_word}
 use Rattle.flow_points.specs.Refusals.{IsFlowRefusal}
 use Rattle.flow_points.specs.PointLists.{FlowPoints, ArePointsOf}
 use Rattle.flow_points.specs.declared.refusal.FlowRefusal.{FlowRefusal}
 use Rattle.report_text.specs.declared.reports.Report.{Report}
-use Rattle.analyser_main.specs.declared.lines.Line.{Line}
-use Rattle.analyser_main.specs.Code.{IsStraight, StopsAt}
 use Rattle.analyser_main.specs.Lists.{IsTracked}
 use Rattle.analyser_main.specs.Listing.{list_text}
 use Rattle.analyser_main.specs.Reports.{IsReportOf}
@@ -39,36 +33,26 @@ IsImageOf bytes image = image.file ≡ bytes
 abbrev pub WithImage : List ℕ → (Image → Type 0) → Type 0
 WithImage bytes P = (image : Image) × IsImageOf bytes image × P image
 
-abbrev pub IsCodeOf : Image → List Line → Type 0
-IsCodeOf image code = IsStraight (code_word image) image.entry code
-
-abbrev pub RunsPast : Image → ℕ → Type 0
-RunsPast image a = (stop : ℕ) × StopsAt (code_word image) image.entry stop × (2 ^ 64 ≤ stop) × (a ≡ word stop)
-
 pub record HasPoints (image : Image) (points : FlowPoints) : Type 0 where
   pub accepted : (refusal : FlowRefusal) → IsFlowRefusal image refusal → ⊥
   pub are : ArePointsOf image points
 
-pub record IsStraightOf (image : Image) (code : List Line) : Type 0 where
-  pub points : FlowPoints
+pub record IsStraight (image : Image) (points : FlowPoints) : Type 0 where
   pub has_points : HasPoints image points
   pub no_turn : HasNoTurn points.points
-  pub is_code : IsCodeOf image code
 
 -- the code is looked at before the list
 pub data IsNotYet (list : List ℕ) (image : Image) : ℕ → Type 0 where
   names_a_slot : (a : ℕ) (points : FlowPoints) → HasPoints image points → HasColon list → a ≡ 0 → IsNotYet list image a
   branches : (a : ℕ) (points : FlowPoints) → HasPoints image points → (HasColon list → ⊥) → IsFirstTurn points.points a →
       IsNotYet list image a
-  runs_past : (a : ℕ) (points : FlowPoints) → HasPoints image points → (HasColon list → ⊥) → HasNoTurn points.points →
-      RunsPast image a → IsNotYet list image a
 
 pub record IsAnalysed (list : List ℕ) (image : Image) (report : Report) : Type 0 where
   pub registers : List ℕ
-  pub code : List Line
+  pub points : FlowPoints
   pub tracked : IsTracked list registers
-  pub is_straight : IsStraightOf image code
-  pub is_report : IsReportOf registers image.entry code report
+  pub is_straight : IsStraight image points
+  pub is_report : IsReportOf registers points report
 
 pub record IsListed (image : Image) (text : List ℕ) : Type 0 where
   pub points : FlowPoints

@@ -15,14 +15,14 @@ use Rattle.elf_image.specs.declared.image.Image.{Image}
 use Rattle.elf_image.specs.declared.refusal.ElfRefusal.{ElfRefusal}
 use Rattle.elf_image.specs.Refusals.{refusal_of}
 use Rattle.flow_points.specs.Refusals.{IsFlowRefusal}
+use Rattle.flow_points.specs.PointLists.{FlowPoints}
 use Rattle.flow_points.specs.declared.refusal.FlowRefusal.{FlowRefusal}
 use Rattle.report_text.specs.declared.reports.Report.{Report}
 use Rattle.report_text.specs.Text.{nl, text_of}
-use Rattle.analyser_main.specs.declared.lines.Line.{Line}
 use Rattle.analyser_main.specs.declared.refusals.TrackRefusal.{TrackRefusal}
 use Rattle.analyser_main.specs.Lists.{IsTrackRefusal}
 use Rattle.analyser_main.specs.Lines.{elf_line, flow_line, track_line, too_long_line, not_yet_line}
-use Rattle.analyser_main.specs.Analysed.{most_bytes, HasColon, IsImageOf, IsStraightOf, IsNotYet, IsAnalysed, IsListed}
+use Rattle.analyser_main.specs.Analysed.{most_bytes, HasColon, IsImageOf, IsStraight, IsNotYet, IsAnalysed, IsListed}
 
 pub data IsRefused (bytes : List ℕ) : ℕ → List ℕ → Type 0 where
   too_long : (status : ℕ) (text : List ℕ) → most_bytes < length bytes → status ≡ 1 → text ≡ too_long_line → IsRefused bytes status text
@@ -35,8 +35,8 @@ pub data IsAnswer (list bytes : List ℕ) : ℕ → List ℕ → Type 0 where
   refused : (status : ℕ) (text : List ℕ) → IsRefused bytes status text → IsAnswer list bytes status text
   not_yet : (status a : ℕ) (text : List ℕ) (image : Image) → length bytes ≤ most_bytes → IsImageOf bytes image → IsNotYet list image a →
       status ≡ 1 → text ≡ not_yet_line a → IsAnswer list bytes status text
-  no_list : (status : ℕ) (text : List ℕ) (image : Image) (code : List Line) (refusal : TrackRefusal) → length bytes ≤ most_bytes →
-      IsImageOf bytes image → (HasColon list → ⊥) → IsStraightOf image code → IsTrackRefusal list refusal →
+  no_list : (status : ℕ) (text : List ℕ) (image : Image) (points : FlowPoints) (refusal : TrackRefusal) → length bytes ≤ most_bytes →
+      IsImageOf bytes image → (HasColon list → ⊥) → IsStraight image points → IsTrackRefusal list refusal →
       status ≡ 1 → text ≡ track_line refusal → IsAnswer list bytes status text
   analysed : (status : ℕ) (text : List ℕ) (image : Image) (report : Report) → length bytes ≤ most_bytes → IsImageOf bytes image →
       IsAnalysed list image report → status ≡ 0 → text ≡ text_of report → IsAnswer list bytes status text

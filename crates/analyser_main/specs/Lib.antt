@@ -1,10 +1,10 @@
-pub mod Code
 pub mod Lists
 pub mod Refusals
 pub mod Effects
 pub mod States
 pub mod Reports
 pub mod Steps
+pub mod Runs
 pub mod Listing
 pub mod Turns
 pub mod Orders

@@ -1,30 +1,21 @@
 -- What a refusal says.
 --
---   IsCodeRefusal fetch entry refusal   the straight code from the entry on stops, or memory was wanting
 --   IsNameRefusal items refusal         an item is no further name, or memory was wanting
 --   IsListRefusal text refusal          the text is no list of registers, or memory was wanting
 --   IsImageRefusal bytes refusal        the bytes are no image, or memory was wanting
 --   IsPointsRefusal image refusal      the image's code is refused for its flow, or memory was wanting
 --   IsReportRefusal list image refusal  there is no report of this list over the image, or memory was wanting
 --   IsRefusalOver bytes Refuses refusal the bytes are no image, or their image is refused, or memory was wanting
-use Rattle.std.specs.Prelude.{◌≡◌, ℕ, List, Option, Some}
-use Rattle.word_rows.specs.Words.{word}
+use Rattle.std.specs.Prelude.{◌≡◌, ℕ, List, Some}
 use Rattle.elf_image.specs.Refusals.{refusal_of}
 use Rattle.elf_image.specs.declared.image.Image.{Image}
 use Rattle.flow_points.specs.Refusals.{IsFlowRefusal}
 use Rattle.analyser_main.specs.declared.refusals.Refusal.{Refusal}
 use Rattle.analyser_main.specs.declared.refusals.Refusal.TheVariants.{Elf, Flow, NotYet, Track, Memory}
 use Rattle.analyser_main.specs.declared.refusals.TrackRefusal.{TrackRefusal}
-use Rattle.analyser_main.specs.declared.lines.Line.{Line}
-use Rattle.analyser_main.specs.Code.{StopsAt}
+use Rattle.flow_points.specs.PointLists.{FlowPoints}
 use Rattle.analyser_main.specs.Lists.{IsItemRefusal, IsTrackRefusal}
-use Rattle.analyser_main.specs.Analysed.{HasColon, IsStraightOf, IsNotYet, WithImage}
-
--- an address past the last one is told as 0
-abbrev pub IsCodeRefusal : (ℕ → Option ℕ) → ℕ → Refusal → Type 0
-IsCodeRefusal fetch entry (NotYet address) = (stop : ℕ) × StopsAt fetch entry stop × (address ≡ word stop)
-IsCodeRefusal fetch entry Memory = Unit {0}
-IsCodeRefusal fetch entry refusal = ⊥
+use Rattle.analyser_main.specs.Analysed.{HasColon, IsStraight, IsNotYet, WithImage}
 
 abbrev pub IsNameRefusal : List (List ℕ) → Refusal → Type 0
 IsNameRefusal items (Track refusal) = IsItemRefusal items refusal
@@ -49,8 +40,8 @@ IsPointsRefusal image refusal = ⊥
 -- the list is looked at where all else is well
 pub record IsNoList (list : List ℕ) (image : Image) (refusal : TrackRefusal) : Type 0 where
   pub no_colon : HasColon list → ⊥
-  pub code : List Line
-  pub is_straight : IsStraightOf image code
+  pub points : FlowPoints
+  pub is_straight : IsStraight image points
   pub refused : IsTrackRefusal list refusal
 
 abbrev pub IsReportRefusal : List ℕ → Image → Refusal → Type 0

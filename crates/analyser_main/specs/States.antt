@@ -4,16 +4,20 @@
 --   IsStart registers s                  a start: any words at the tracked registers
 --   Makes assign s t                     the assignment can make t of the state s
 --   MakesAll effect s t                  so can the assignments, one after the other
---   IsStateBefore registers code i s     from some start, s can be the state before the line at place i
---   Holds registers code i a             the row a is a relation before that line: it is 0 where no name
+--   IsStateAt registers points p s       from some start at the entry, s can be the state at the point p
+--   Holds registers points p a           the row a is a relation at the point p: it is 0 where no name
 --                                        stands, and a . s = 0 for each state s there
-use Rattle.std.specs.Prelude.{◌≡◌, ℕ, ◌+◌, ◌<◌, ◌≤◌, List, [], ◌∷◌, Some, length, slice_get, slice_set, slice_index}
+use Rattle.std.specs.Prelude.{◌≡◌, ℕ, ◌<◌, ◌≤◌, List, [], ◌∷◌, length, slice_set, slice_index, Contains}
 use Rattle.word_rows.specs.Words.{IsWord}
 use Rattle.word_rows.specs.Rows.{IsRow, IsState, dot}
 use Rattle.affine_prog.specs.declared.Assign.{Assign}
 use Rattle.affine_prog.specs.declared.Assign.TheVariants.{Affine, Any}
-use Rattle.analyser_main.specs.declared.lines.Line.{Line}
+use Rattle.flow_points.specs.Walks.{start}
+use Rattle.flow_points.specs.PointLists.{FlowPoints}
+use Rattle.flow_points.specs.declared.steps.Point.{Point}
+use Rattle.flow_points.specs.declared.steps.CodePoint.{CodePoint}
 use Rattle.analyser_main.specs.Effects.{effect_of}
+use Rattle.analyser_main.specs.Turns.{GoesTo}
 
 -- 0 at the positions from the registers' to 15
 abbrev pub IsUnused : List ℕ → List ℕ → Type 0
@@ -31,12 +35,13 @@ abbrev pub MakesAll : List Assign → List ℕ → List ℕ → Type 0
 MakesAll [] s t = t ≡ s
 MakesAll (assign ∷ effect) s t = (u : List ℕ) × Makes assign s u × MakesAll effect u t
 
-pub data IsStateBefore (registers : List ℕ) (code : List Line) : ℕ → List ℕ → Type 0 where
-  start : (i : ℕ) (s : List ℕ) → i ≡ 0 → IsStart registers s → IsStateBefore registers code i s
-  step : (i j : ℕ) (s t : List ℕ) (line : Line) → IsStateBefore registers code i s → slice_get code i ≡ Some line →
-      MakesAll (effect_of registers line.address line.instr) s t → j ≡ i + 1 → IsStateBefore registers code j t
+pub data IsStateAt (registers : List ℕ) (points : FlowPoints) : Point → List ℕ → Type 0 where
+  entered : (p : Point) (s : List ℕ) → p ≡ start points.entry → IsStart registers s → IsStateAt registers points p s
+  stepped : (code : CodePoint) (to : Point) (s t : List ℕ) → Contains points.points code → GoesTo code to →
+      IsStateAt registers points code.point s → MakesAll (effect_of registers code.point.address code.instr) s t →
+      IsStateAt registers points to t
 
-pub record Holds (registers : List ℕ) (code : List Line) (i : ℕ) (a : List ℕ) : Type 0 where
+pub record Holds (registers : List ℕ) (points : FlowPoints) (p : Point) (a : List ℕ) : Type 0 where
   pub row : IsRow 17 a
   pub unused : IsUnused registers a
-  pub zero : (s : List ℕ) → IsStateBefore registers code i s → dot a s ≡ 0
+  pub zero : (s : List ℕ) → IsStateAt registers points p s → dot a s ≡ 0

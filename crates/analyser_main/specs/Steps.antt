@@ -1,4 +1,4 @@
--- One line of the analysis.
+-- One point of the analysis.
 --
 --   IsNext effect old new       new is the module of what the assignments make of the rows of old
 --   Relates visible states s    s tells the relations on the visible positions of the module of the states

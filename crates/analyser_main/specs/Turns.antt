@@ -3,7 +3,12 @@
 --   Turns flow              the flow neither goes on to the next instruction alone nor stops
 --   HasNoTurn points        no point has such a flow
 --   IsFirstTurn points a    a point with such a flow has the address a, and none has a lower one
-use Rattle.std.specs.Prelude.{◌≡◌, ℕ, ◌≤◌, List, All, Contains}
+--   GoesTo code to          the flow goes on from the code's point to the point `to`
+--   AreStraight points      they are all points of some code, below 2^64, and none turns
+use Rattle.std.specs.Prelude.{◌≡◌, ℕ, ◌≤◌, ◌<◌, ◌^◌, List, All, Contains}
+use Rattle.flow_points.specs.Walks.{successors_of}
+use Rattle.flow_points.specs.PointLists.{FlowPoints, HasCode}
+use Rattle.flow_points.specs.declared.steps.Point.{Point}
 use Rattle.flow_points.specs.declared.steps.CodePoint.{CodePoint}
 use Rattle.flow_points.specs.declared.steps.Flow.{Flow}
 use Rattle.flow_points.specs.declared.steps.Flow.TheVariants.{Next, Halt}
@@ -22,3 +27,11 @@ pub record IsFirstTurn (points : List CodePoint) (a : ℕ) : Type 0 where
   pub turns : Turns code.flow
   pub address : code.point.address ≡ a
   pub least : All (λ other. Turns other.flow → a ≤ other.point.address) points
+
+abbrev pub GoesTo : CodePoint → Point → Type 0
+GoesTo code to = Contains (successors_of code.point.proc_entry code.flow) to
+
+pub record AreStraight (points : FlowPoints) : Type 0 where
+  pub code : HasCode points
+  pub within : All (λ code. code.point.address < 2 ^ 64) points.points
+  pub no_turn : HasNoTurn points.points

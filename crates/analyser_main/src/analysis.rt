@@ -1,21 +1,18 @@
 //! The report, and the list, for the bytes of a file.
 
-ghost use Rattle.std.specs.Prelude.{◌≡◌, ◌<◌, ◌↔◌, All, AllPairs, IsTrue, MatchResult};
-ghost use Rattle.rv_decode.specs.Instructions.{IsWellFormed};
-ghost use Rattle.analyser_main.specs.Analysed.{HasColon, HasPoints, IsImageOf, IsCodeOf, IsAnalysed, IsListed, WithImage};
+ghost use Rattle.std.specs.Prelude.{◌↔◌, IsTrue, MatchResult};
+ghost use Rattle.analyser_main.specs.Analysed.{HasColon, HasPoints, IsImageOf, IsAnalysed, IsListed, WithImage};
+ghost use Rattle.analyser_main.specs.Turns.{AreStraight, HasNoTurn};
 ghost use Rattle.analyser_main.specs.Refusals.{IsImageRefusal, IsPointsRefusal, IsReportRefusal, IsRefusalOver};
 
-use crate::lines::Line;
 use crate::listing::write_list;
 use crate::lists::read_registers;
 use crate::refusals::Refusal;
 use crate::reports::report_of;
-use crate::straight::straight_code;
 use crate::turns::first_turn;
 use elf_image::{ElfRefusal, Image, read_image};
 use flow_points::{FlowRefusal, Points, recover};
 use report_text::Report;
-use rv_decode::laws::table_is_one_to_one;
 use std::alloc::Global;
 
 /// The report for the bytes of a file and a list of registers.
@@ -94,16 +91,12 @@ fn points_report(
     if let Some(address) = first_turn(points) {
         return Err(Refusal::NotYet(address));
     }
-    let code = match straight_code(alloc, image) {
-        Ok(code) => code,
-        Err(refusal) => return Err(refusal),
-    };
     let registers = match read_registers(alloc, list) {
         Ok(registers) => registers,
         Err(refusal) => return Err(refusal),
     };
-    known_lines(image, code.as_slice());
-    report_of(alloc, image.entry, registers.as_slice(), code.as_slice())
+    known_points(image, points);
+    report_of(alloc, points, registers.as_slice())
 }
 
 fn has_colon(list: &str) -> bool
@@ -112,11 +105,12 @@ fn has_colon(list: &str) -> bool
     list.contains(':')
 }
 
-// What straight code keeps.
-fn known_lines(image: &Image, code: &[Line])
-    requires { IsCodeOf image.now code.now }
-    ensures well_formed { All (λ line. IsWellFormed line.instr) code.now }
-    ensures ascending { AllPairs (λ l m. l.address < m.address) code.now }
+// What the points of an image keep where none turns.
+fn known_points(image: &Image, points: &Points)
+    requires points { HasPoints image.now points.now }
+    requires no_turn { HasNoTurn points.now.points }
+    ensures { AreStraight points.now }
 {
-    table_is_one_to_one();
+    image.known();
+    points.known();
 }

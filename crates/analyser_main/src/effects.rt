@@ -5,9 +5,9 @@ ghost use Rattle.rv_decode.specs.Instructions.{IsWellFormed};
 ghost use Rattle.affine_prog.specs.Assignments.{position_of};
 ghost use Rattle.analyser_main.specs.Effects.{upper, term, multiple, constant, beside_zero, imm_value, shift_value, reg_value, result_of, place_of, factor_at, coefficient, is_nameable, row_of, assigned, effect_of};
 
-use crate::lines::Line;
 use crate::values::{Term, Value};
 use affine_prog::Assign;
+use flow_points::CodePoint;
 use rv_decode::{ImmOp, Instr, RegOp, ShiftOp};
 use word_rows::Row;
 
@@ -19,15 +19,15 @@ const NO_TERM: Term = Term {
 // The register that ECALL sets.
 const A0: u8 = 10;
 
-/// The assignment of a line, where it writes a tracked register.
-pub fn assignment_of(registers: &[u8], line: &Line) -> Option<Assign>
+/// The assignment at a point, where its instruction writes a tracked register.
+pub fn assignment_of(registers: &[u8], code: &CodePoint) -> Option<Assign>
     requires few { length registers.now ≤ 16 }
-    requires instr { IsWellFormed line.now.instr }
-    ensures { MatchOption result (effect_of registers.now line.now.address line.now.instr ≡ [])
-        (λ assign. (effect_of registers.now line.now.address line.now.instr ≡ assign ∷ [])
+    requires instr { IsWellFormed code.now.instr }
+    ensures { MatchOption result (effect_of registers.now code.now.point.address code.now.instr ≡ [])
+        (λ assign. (effect_of registers.now code.now.point.address code.now.instr ≡ assign ∷ [])
         × (position_of assign < 16)) }
 {
-    let (register, value) = result_of(line.address, line.instr)?;
+    let (register, value) = result_of(code.point.address, code.instr)?;
     let place = place_of(registers, register)?;
     Some(assigned(registers, place, value))
 }

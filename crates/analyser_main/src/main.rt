@@ -17,7 +17,6 @@ mod analysis;
 mod answers;
 mod codes;
 mod effects;
-mod lines;
 mod listing;
 mod lists;
 mod order;
@@ -26,7 +25,6 @@ mod refusal_lines;
 mod refusals;
 mod replies;
 mod reports;
-mod straight;
 #[cfg(test)]
 mod tests;
 mod turns;

@@ -21,24 +21,37 @@ fn affine_cleanly(
     affine_main(alloc, words, files, out)
 }
 
-// The small file with these code words.
-fn small_file(alloc: Global, words: &[u32]) -> Result<Vec<u8>, AllocError> {
-    let size = (words.len() as u64).wrapping_mul(4).wrapping_add(120);
+// A file with these segments, each by its offset, address and size, and with words behind its headers.
+fn file_of(
+    alloc: Global,
+    entry: u64,
+    segments: &[[u64; 3]],
+    words: &[u32],
+) -> Result<Vec<u8>, AllocError> {
     let mut bytes = Vec::new(alloc);
     bytes.extend_from_slice(&[0x7f, 0x45, 0x4c, 0x46, 2, 1, 1, 0, 0, 0, 0, 0, 0, 0, 0, 0])?;
     bytes.extend_from_slice(&[2, 0, 243, 0, 1, 0, 0, 0])?;
-    for field in [0x10078, 64, 0] {
+    for field in [entry, 64, 0] {
         bytes.extend_from_slice(&u64::to_le_bytes(field))?;
     }
-    bytes.extend_from_slice(&[0, 0, 0, 0, 64, 0, 56, 0, 1, 0, 0, 0, 0, 0, 0, 0])?;
-    bytes.extend_from_slice(&[1, 0, 0, 0, 5, 0, 0, 0])?;
-    for field in [0, 0x10000, 0x10000, size, size, 0x1000] {
-        bytes.extend_from_slice(&u64::to_le_bytes(field))?;
+    bytes.extend_from_slice(&[0, 0, 0, 0, 64, 0, 56, 0])?;
+    bytes.extend_from_slice(&(segments.len() as u64).to_le_bytes())?;
+    for [offset, address, size] in segments {
+        bytes.extend_from_slice(&[1, 0, 0, 0, 5, 0, 0, 0])?;
+        for field in [*offset, *address, *address, *size, *size, 0x1000] {
+            bytes.extend_from_slice(&u64::to_le_bytes(field))?;
+        }
     }
     for word in words {
         bytes.extend_from_slice(&word.to_le_bytes())?;
     }
     Ok(bytes)
+}
+
+// The small file with these code words.
+fn small_file(alloc: Global, words: &[u32]) -> Result<Vec<u8>, AllocError> {
+    let size = (words.len() as u64).wrapping_mul(4).wrapping_add(120);
+    file_of(alloc, 0x10078, &[[0, 0x10000, size]], words)
 }
 
 fn words_of(alloc: Global, order: &str) -> Result<Vec<String>, AllocError> {
@@ -73,6 +86,9 @@ const REPORT: &str =
 
 const LIST: &str =
     "affine-list 1\nproc 0x10078\n0x10078 00500513 addi a0,zero,5\n0x1007c 00100073 ebreak\nend\n";
+
+const WRAPPED: &str =
+    "affine-report 1\ntrack a0\nproc 0xfffffffffffffff8\nat 0x0\nrel 1*a0 -3\nat 0x4\nrel 1*a0 -24\nat 0xfffffffffffffff8\nnone\nat 0xfffffffffffffffc\nrel 1*a0 -1\nend\n";
 
 const USAGE: &str = "usage:\nanalyse FILE --track LIST\nlist FILE\n";
 
@@ -153,6 +169,18 @@ fn relations_of_straight_code(rt: HostRuntime) -> Result<(), Fail> {
         let report = report_with(alloc, list, points)?;
         assert_eq!(rt; out.written.as_slice(), report.as_slice());
     }
+    Ok(())
+}
+
+#[test]
+fn straight_code_goes_on_at_address_0(rt: HostRuntime) -> Result<(), Fail> {
+    let alloc = rt.alloc();
+    let segments = [[176, u64::MAX - 7, 8], [184, 0, 8]];
+    let words = [0x00100513, 0x00250513, 0x00351513, EBREAK];
+    let bytes = file_of(alloc, u64::MAX - 7, &segments, &words)?;
+    let (status, written) = answer_to(alloc, "analyse f --track a0", bytes, 4096)?;
+    assert_eq!(rt; status, 0);
+    assert_eq!(rt; written.as_slice(), WRAPPED.as_bytes());
     Ok(())
 }
 

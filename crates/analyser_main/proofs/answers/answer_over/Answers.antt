@@ -17,7 +17,7 @@ answer_refused list bytes (Flow refusal) text short is line =
     answers.IsAnswer.refused 1 text (bad_flow 1 text is.0 refusal short is.1 is.2 refl line)
 answer_refused list bytes (NotYet a) text short is line = answers.IsAnswer.not_yet 1 a text is.0 short is.1 is.2 refl line
 answer_refused list bytes (Track refusal) text short is line =
-    no_list 1 text is.0 is.2.code refusal short is.1 is.2.no_colon is.2.is_straight is.2.refused refl line
+    no_list 1 text is.0 is.2.points refusal short is.1 is.2.no_colon is.2.is_straight is.2.refused refl line
 answer_refused list bytes Memory text short is line = absurd line
 
 answer_analysed : (list bytes : List ℕ) (report : Report) → length bytes ≤ most_bytes → WithImage bytes (λ image. IsAnalysed list image report) →

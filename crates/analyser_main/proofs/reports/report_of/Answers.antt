@@ -1,34 +1,43 @@
-use Rattle.std.proofs.Common.{inr, length, refl, arith}
+use Rattle.std.proofs.Common.{◌≡◌, ◌+◌, ◌-◌, length, get_or, arith}
 use Rattle.std.proofs.lemmas.Grind.{merely}
 use Rattle.std.proofs.lemmas.List.{length-map}
 use Rattle.std.proofs.lemmas.Option.{slice_get-get_or}
-use Rattle.lead_basis.proofs.Laws.{basis_rows}
-use Rattle.analyser_main.proofs.StatesPushed.{start_module, start_some, next_module, next_some}
 use Rattle.report_text.specs.declared.names.Name.TheVariants.{Register}
 use Rattle.analyser_main.proofs.RegistersNamed.{names_allowed, names_apart}
-use Rattle.analyser_main.proofs.RelationsTold.{point_told}
-use Rattle.analyser_main.proofs.PointsTold.{points_none, points_more, points_whole, points_ascend, points_rows}
+use Rattle.analyser_main.proofs.StraightEntry.{entry_within, entry_point, follows, first_follows}
+use Rattle.analyser_main.proofs.StatesPushed.{entry_spans}
+use Rattle.analyser_main.proofs.PointsTold.{told_whole, told_ascend, told_rows, told_each}
 use Rattle.analyser_main.proofs.reports.report_of.Goals as goal
 
-pub loop-i-init : goal.loop-i-init
-loop-i-init c = record {
-  points = rw c.new-points.ensures (points_none c.args.registers.now c.args.entry c.args.code.now);
-  spans = start_module c.args.registers.now c.args.code.now _ c.in_ok-states.ensures;
-  some = start_some c.args.registers.now c.args.code.now c.requires.few;
-}
+pub told_along-requires-clause-following : goal.told_along-requires-clause-following
+told_along-requires-clause-following c = λ i code behind least below at next_at.
+    follows c.args.points.now c.entry_number-entry.result i code behind c.requires.straight c.entry_number-entry.ensures
+    (λ e. omega (arith, least, e)) at next_at
 
-pub loop-i-preserved : goal.loop-i-preserved
-loop-i-preserved c =
-    let here = slice_get-get_or c.args.code.now c.loop-i.i _ c.loop-i-test.true in
-    record {
-      points = rw c.in_ok-push.ensures.ok (points_more c.args.registers.now c.args.entry c.args.code.now c.loop-i.i c.loop-i.points _ c.loop-i.invariant.points
-          (point_told c.args.registers.now c.args.code.now c.args.entry c.loop-i.i _ _ _ _ c.requires.few c.visible_positions-visible.ensures c.loop-i.invariant.spans c.loop-i.invariant.some here c.in_ok-state.ensures.state));
-      spans = next_module c.args.registers.now c.args.code.now c.loop-i.i _ c.loop-i.states _ c.requires.few here (basis_rows 17 c.loop-i.states c.known.ensures.basis) c.loop-i.invariant.spans c.in_ok-states-2.ensures.next;
-      some = next_some c.args.registers.now c.args.code.now c.loop-i.i _ here c.loop-i.invariant.some;
-    }
+pub told_along-requires-clause-start : goal.told_along-requires-clause-start
+told_along-requires-clause-start c = λ below code at.
+    entry_spans c.args.registers.now c.args.points.now code.point c.in_ok-start.start c.requires.few c.requires.straight
+    (entry_point c.args.points.now c.entry_number-entry.result code c.entry_number-entry.ensures at) c.in_ok-start.ensures
 
-pub state_of-requires : goal.state_of-requires
-state_of-requires c = (c.visible_positions-visible.ensures 16).1 (inr refl)
+pub told_along-requires-2-clause-within : goal.told_along-requires-2-clause-within
+told_along-requires-2-clause-within c =
+    let within = entry_within c.args.points.now c.entry_number-entry.result c.entry_number-entry.ensures in omega (arith, within)
+
+pub told_along-requires-2-clause-following : goal.told_along-requires-2-clause-following
+told_along-requires-2-clause-following c = λ i code behind least below at next_at.
+    follows c.args.points.now c.entry_number-entry.result i code behind c.requires.straight c.entry_number-entry.ensures
+    (λ e. omega (arith, below, e)) at next_at
+
+pub told_along-requires-2-clause-start : goal.told_along-requires-2-clause-start
+told_along-requires-2-clause-start c = λ some code at.
+    let points = c.args.points.now.points in
+    let first = c.entry_number-entry.result in
+    let within = entry_within c.args.points.now first c.entry_number-entry.ensures in
+    let k = length points - 1 in
+    let last_at = slice_get-get_or points k code (omega (arith, within)) in
+    let last : k + 1 ≡ length points = omega (arith, within) in
+    let goes = first_follows c.args.points.now first k (get_or points k code) code c.requires.straight c.entry_number-entry.ensures some last_at last at in
+    c.in_ok-high.ensures.states k (omega (arith, within)) (omega (arith, last, c.count.ensures.count)) (get_or points k code) code.point last_at goes
 
 pub invariant_of-tracked : goal.invariant_of-tracked
 invariant_of-tracked c =
@@ -43,17 +52,26 @@ invariant_of-tracked c =
 
 pub invariant_of-result : goal.invariant_of-result
 invariant_of-result c =
+    let registers = c.args.registers.now in
+    let points = c.args.points.now in
     let names = c.in_ok-names.ensures in
-    let all = points_whole c.args.registers.now c.args.entry c.args.code.now c.loop-i.i c.loop-i.points (omega arith) c.loop-i.invariant.points in
+    let all = told_whole registers points c.entry_number-entry.result c.in_ok-told.told c.in_ok-high.high c.append.new.self
+    (entry_within points c.entry_number-entry.result c.entry_number-entry.ensures) c.in_ok-told.ensures.told
+    (rw c.count.ensures.count at c.in_ok-high.ensures.told) c.in_ok-append.ensures in
     record {
-      ascending = merely (points_ascend c.args.registers.now c.args.entry c.args.code.now c.loop-i.points all c.requires.ascending);
-      reduced = merely (rw names (points_rows c.args.registers.now c.args.entry c.args.code.now (length c.args.code.now) c.loop-i.points all));
+      ascending = merely (told_ascend registers points c.append.new.self c.requires.straight all);
+      reduced = merely (rw names (told_rows registers points (length points.points) c.append.new.self all));
     }
 
-pub returns : goal.returns
-returns c =
-    let all = points_whole c.args.registers.now c.args.entry c.args.code.now c.loop-i.i c.loop-i.points (omega arith) c.loop-i.invariant.points in
+pub returns-clause-report : goal.returns-clause-report
+returns-clause-report c =
+    let registers = c.args.registers.now in
+    let points = c.args.points.now in
+    let all = told_whole registers points c.entry_number-entry.result c.in_ok-told.told c.in_ok-high.high c.append.new.self
+    (entry_within points c.entry_number-entry.result c.entry_number-entry.ensures) c.in_ok-told.ensures.told
+    (rw c.count.ensures.count at c.in_ok-high.ensures.told) c.in_ok-append.ensures in
     record {
-      report = record { names = c.in_ok-names.ensures; count = all.count; points = λ i point e. (all.each i point e).tells };
-      refusal = tt;
+      names = c.in_ok-names.ensures;
+      count = all.size;
+      told = λ i code point at is. told_each registers points (length points.points) c.append.new.self i code point all at is;
     }

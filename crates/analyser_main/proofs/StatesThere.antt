@@ -1,4 +1,4 @@
--- The states before each line are states, and are 0 where no register stands.
+-- The states at each point are states, and are 0 where no register stands.
 use Rattle.std.proofs.Common.{◌≡◌, ℕ, ◌<◌, ◌≤◌, Bool, true, false, if◌then◌else◌, List, [], ◌∷◌, Option, Some, None, length, slice_set, get_or-set_other, refl, ap, sym, ◌∙◌, subst, lit<, arith}
 use Rattle.std.proofs.Math.Nat.{mod-lt, mod-eq_of_lt}
 use Rattle.std.proofs.lemmas.List.Quantifiers.{position-Some}
@@ -9,12 +9,13 @@ use Rattle.row_modules.specs.Modules.{AreRows}
 use Rattle.affine_prog.specs.declared.Assign.{Assign}
 use Rattle.affine_prog.specs.declared.Assign.TheVariants.{Affine, Any}
 use Rattle.module_push.proofs.Maps.{IsRow-set}
+use Rattle.flow_points.specs.PointLists.{FlowPoints}
+use Rattle.flow_points.specs.declared.steps.Point.{Point}
 use Rattle.rv_decode.specs.declared.instructions.Instr.{Instr}
-use Rattle.analyser_main.specs.declared.lines.Line.{Line}
 use Rattle.analyser_main.specs.declared.values.Value.{Value}
 use Rattle.analyser_main.specs.declared.values.Value.TheVariants.{Linear, Unknown}
 use Rattle.analyser_main.specs.Effects.{result_of, place_of, assigned, effect_on, effect_of}
-use Rattle.analyser_main.specs.States.{IsStart, Makes, affine, any, MakesAll, IsStateBefore, start, step}
+use Rattle.analyser_main.specs.States.{IsStart, Makes, affine, any, MakesAll, IsStateAt, entered, stepped}
 
 -- an effect is empty, or one assignment to the position of a tracked register
 abbrev place_in : Assign → ℕ
@@ -71,14 +72,15 @@ made_stays registers effect s t few (one effect' assign e below) makes st =
     let (w, is_word, is_set) = made_word assign s u made in
     subst (IsStart registers) (sym (same ∙ is_set)) (set_stays registers (place_in assign) w s few below is_word st)
 
--- each state before a line is a state, and is 0 where no register stands
-before_is_start : (registers : List ℕ) (code : List Line) (i : ℕ) (s : List ℕ) → length registers ≤ 16 → IsStateBefore registers code i s → IsStart registers s
-before_is_start registers code i s few (start i' s' is_0 is_start) = is_start
-before_is_start registers code j t few (step i j' s t' line before here makes is_j) =
-    made_stays registers (effect_of registers line.address line.instr) s t few (one_at_most registers line.address line.instr) makes (before_is_start registers code i s few before)
+-- each state at a point is a state, and is 0 where no register stands
+there_is_start : (registers : List ℕ) (points : FlowPoints) (p : Point) (s : List ℕ) → length registers ≤ 16 → IsStateAt registers points p s → IsStart registers s
+there_is_start registers points p s few (entered p' s' is begins) = begins
+there_is_start registers points to t few (stepped code to' s t' there goes at makes) =
+    made_stays registers (effect_of registers code.point.address code.instr) s t few (one_at_most registers code.point.address code.instr) makes
+    (there_is_start registers points code.point s few at)
 
-pub before_is_state : (registers : List ℕ) (code : List Line) (i : ℕ) (s : List ℕ) → length registers ≤ 16 → IsStateBefore registers code i s → IsState s
-before_is_state registers code i s few before = (before_is_start registers code i s few before).state
+pub there_is_state : (registers : List ℕ) (points : FlowPoints) (p : Point) (s : List ℕ) → length registers ≤ 16 → IsStateAt registers points p s → IsState s
+there_is_state registers points p s few at = (there_is_start registers points p s few at).state
 
-pub before_are_rows : (registers : List ℕ) (code : List Line) (i : ℕ) → length registers ≤ 16 → AreRows 17 (IsStateBefore registers code i)
-before_are_rows registers code i few s before = (before_is_state registers code i s few before).row
+pub there_are_rows : (registers : List ℕ) (points : FlowPoints) (p : Point) → length registers ≤ 16 → AreRows 17 (IsStateAt registers points p)
+there_are_rows registers points p few s at = (there_is_state registers points p s few at).row
