@@ -1,11 +1,10 @@
 -- There is one outcome at an address.
-use Rattle.std.proofs.Common.{◌≡◌, ◌≢◌, ℕ, Option, None, Some, MatchOption, Result, refl, sym, subst, arith}
+use Rattle.std.proofs.Common.{◌≡◌, ℕ, Option, None, Some, Result, refl, sym, subst}
 use Rattle.rv_decode.specs.Instructions.{Means}
 use Rattle.rv_decode.specs.declared.instructions.Instr.{Instr}
 use Rattle.rv_decode.specs.declared.instructions.Instr.TheVariants.{Auipc}
 use Rattle.rv_decode.proofs.Table.{one_instruction}
 use Rattle.flow_points.specs.Flows.{HasInstr, HasUpper, Judged, base_of, outside, unknown, known, prior}
-use Rattle.flow_points.specs.Sites.{auipc_field}
 use Rattle.flow_points.specs.declared.steps.Flow.{Flow}
 use Rattle.flow_points.specs.declared.refusal.FlowRefusal.{FlowRefusal}
 
@@ -48,19 +47,3 @@ pub no_upper : (fetch : ℕ → Option ℕ) (a r w : ℕ) → fetch (prior a) �
 no_upper fetch a r w f none =
     λ n h. none (Auipc r n)
     (subst (λ (v : ℕ). Means v (Auipc r n)) (one_word fetch (prior a) h.auipc.word w h.auipc.fetched f) h.auipc.means)
-
--- what the field of an AUIPC says of the instruction
-field_is : (i : Instr) (r : ℕ) (o : Option ℕ) → auipc_field i r ≡ o
-    → MatchOption o ((n : ℕ) → i ≡ Auipc r n → ⊥) (λ n. i ≡ Auipc r n)
-field_is (Auipc rd imm) r None e = λ n d. grind (arith, e, d)
-field_is (Auipc rd imm) r (Some m) e = grind (arith, e)
-field_is i r None e = λ n d. cc
-field_is i r (Some m) e = cc
-
-pub has_upper : (fetch : ℕ → Option ℕ) (a r w : ℕ) (i : Instr) → r ≢ 0 → fetch (prior a) ≡ Some w → Means w i
-    → HasUpper fetch a r (auipc_field i r)
-has_upper fetch a r w i set f m = by (auipc_field i r) (field_is i r (auipc_field i r) refl)
-  where
-    by : (o : Option ℕ) → MatchOption o ((n : ℕ) → i ≡ Auipc r n → ⊥) (λ n. i ≡ Auipc r n) → HasUpper fetch a r o
-    by None wrong = λ n h. wrong n (one_instr fetch (prior a) i (Auipc r n) (record { word = w; fetched = f; means = m }) h.auipc)
-    by (Some n) e = record { set = set; auipc = record { word = w; fetched = f; means = subst (λ (j : Instr). Means w j) e m } }

@@ -19,15 +19,12 @@ use Rattle.flow_points.specs.declared.steps.CodePoint.{CodePoint}
 use Rattle.flow_points.specs.declared.steps.Flow.{Flow}
 use Rattle.flow_points.specs.declared.refusal.FlowRefusal.{FlowRefusal}
 use Rattle.flow_points.proofs.SamePoint.{laws, tells}
-use Rattle.flow_points.proofs.Lists.{all_one, all_two, Contains-map}
+use Rattle.flow_points.proofs.Lists.{all_one, all_two}
 
 pub reached_by : (fetch : ℕ → Option ℕ) (entry : ℕ) (from to : Point) (flow is : Flow) → FlowWalk fetch entry from
     → HasFlow fetch from.address flow → flow ≡ is → Contains (successors_of from.proc_entry is) to → FlowWalk fetch entry to
 reached_by fetch entry from to flow is walk has e there =
     onward from to is walk (subst (λ (f : Flow). HasFlow fetch from.address f) e has) there
-
-pub key_there : (entries : List (Point × Site)) (e : Point × Site) → Contains entries e → HasSite entries e.0
-key_there entries e h = Contains-map (λ (d : Point × Site). d.0) entries e h
 
 pub keys_added : (old more : List (Point × Site)) → keys_of (old ++ more) ≡ keys_of old ++ keys_of more
 keys_added [] more = refl

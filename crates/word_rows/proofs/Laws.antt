@@ -1,12 +1,12 @@
 -- Laws of rows, for the crates above. A sum is exact where no wrap is written, and `words_of` and
 -- `word` wrap: once is enough.
-use Rattle.std.proofs.Common.{◌≡◌, ◌≢◌, ℕ, zero, suc, ◌+◌, ◌-◌, ◌*◌, ◌/◌, ◌%◌, ◌^◌, ◌<◌, ◌≤◌, List, [], ◌∷◌, length, get_or, set, replicate, refl, ap, sym, ◌∙◌, subst, arith, add-one, lit<, below_more}
+use Rattle.std.proofs.Common.{◌≡◌, ◌≢◌, ℕ, zero, suc, ◌+◌, ◌*◌, ◌^◌, ◌<◌, ◌≤◌, List, [], ◌∷◌, length, get_or, set, replicate, refl, ap, sym, ◌∙◌, subst, arith, add-one, lit<}
 use Rattle.std.proofs.Math.Dec.{eqb-suc-zero}
-use Rattle.std.proofs.Math.Nat.{mod-mod, mod-add-mod, add-mod-mod, mod-lt, mod-eq_of_lt, div-add-mod, le-mul_of_pos_right}
+use Rattle.std.proofs.Math.Nat.{mod-mod, mod-add-mod, add-mod-mod, mod-lt}
 use Rattle.std.proofs.lemmas.List.{length-replicate}
-use Rattle.std.proofs.lemmas.Nat.{mul-mod_first, mul-mod_second, mod-pow-add, pow-add, pow_pos, pow_below, shl-shr}
+use Rattle.std.proofs.lemmas.Nat.{mul-mod_first, mul-mod_second}
 use Rattle.word_rows.specs.Words.{word, IsWord}
-use Rattle.word_rows.specs.Rows.{words_of, IsRow, dot_sum, dot, plus, times, lead, pivot}
+use Rattle.word_rows.specs.Rows.{words_of, IsRow, dot_sum, dot, plus, times, lead}
 
 -- a sum whose first part, or whose factor, is wrapped before
 pub word-plus_first : (x c y : ℕ) → word (word x + c * y) ≡ word (x + c * y)
@@ -169,14 +169,6 @@ pub times-one : (xs : List ℕ) → times 1 xs ≡ xs
 times-one [] = refl
 times-one (x ∷ xs) = let h = times-one xs in let s : 1 * x ≡ x = omega arith in cc
 
-pub times-zero : (xs : List ℕ) → times 0 xs ≡ replicate (length xs) 0
-times-zero [] = refl
-times-zero (x ∷ xs) = let h = times-zero xs in let s : 0 * x ≡ 0 = omega arith in cc
-
-pub times-zeros : (c n : ℕ) → times c (replicate n 0) ≡ replicate n 0
-times-zeros c zero = refl
-times-zeros c (suc n) = let h = times-zeros c n in let s : c * 0 ≡ 0 = omega arith in cc
-
 -- sums of products
 pub dot_sum_comm : (xs ys : List ℕ) → dot_sum xs ys ≡ dot_sum ys xs
 dot_sum_comm [] [] = refl
@@ -276,11 +268,6 @@ pub lead-zeros : (n : ℕ) → lead (replicate n 0) ≡ n
 lead-zeros zero = refl
 lead-zeros (suc n) = omega (arith, lead-zeros n)
 
-pub zeros_from_lead : (xs : List ℕ) → lead xs ≡ length xs → xs ≡ replicate (length xs) 0
-zeros_from_lead [] e = refl
-zeros_from_lead (zero ∷ xs) e = ap (λ ys. 0 ∷ ys) (zeros_from_lead xs (omega arith))
-zeros_from_lead (suc x ∷ xs) e = absurd (omega (arith, lead-other x xs))
-
 -- the leads of sums and multiples: not before those of their parts
 sum_zeros : (x c y : ℕ) → x ≡ 0 → y ≡ 0 → word (x + c * y) ≡ 0
 sum_zeros x c y first second = ap word (let m = ap (λ (n : ℕ). c * n) second in let s : x + c * y ≡ 0 = omega arith in s)
@@ -291,58 +278,10 @@ plus_below c xs ys i e first second k h =
     get_or-wrapped_plus c xs ys k e
     ∙ sum_zeros _ c _ (get_or_before_lead xs k (omega arith)) (get_or_before_lead ys k (omega arith))
 
-times_below : (c : ℕ) (xs : List ℕ) (k : ℕ) → k < lead xs → get_or (words_of (times c xs)) k 0 ≡ 0
-times_below c xs k h = get_or-wrapped_times c xs k ∙ ap (λ n. word (c * n)) (get_or_before_lead xs k h) ∙ ap word (let s : c * 0 ≡ 0 = omega arith in s)
-
 pub lead-plus : (c : ℕ) (xs ys : List ℕ) (i : ℕ) → length xs ≡ length ys → i ≤ lead xs → i ≤ lead ys
     → i ≤ lead (words_of (plus c xs ys))
 lead-plus c xs ys i e first second =
     lead-after (words_of (plus c xs ys)) i (omega (arith, length-wrapped_plus c xs ys e, lead-le xs)) (plus_below c xs ys i e first second)
-
-pub lead-times : (c : ℕ) (xs : List ℕ) → lead xs ≤ lead (words_of (times c xs))
-lead-times c xs =
-    lead-after (words_of (times c xs)) (lead xs) (omega (arith, length-wrapped_times c xs, lead-le xs)) (times_below c xs)
-
--- a lead that is cleared
-pub lead-plus_cleared : (c : ℕ) (xs ys : List ℕ) → length xs ≡ length ys → lead ys ≡ lead xs
-    → lead xs < length xs → word (pivot xs + c * pivot ys) ≡ 0 → lead xs < lead (words_of (plus c xs ys))
-lead-plus_cleared c xs ys e same within clears =
-    let at : get_or (words_of (plus c xs ys)) (lead xs) 0 ≡ 0 =
-    get_or-wrapped_plus c xs ys (lead xs) e ∙ (rw same at clears) in
-    let all : lead xs + 1 ≤ lead (words_of (plus c xs ys)) =
-    lead-after (words_of (plus c xs ys)) (lead xs + 1) (omega (arith, length-wrapped_plus c xs ys e))
-    (below_more _ _ (plus_below c xs ys (lead xs) e (omega arith) (omega arith)) at) in
-    omega arith
-
-pub lead-times_cleared : (c : ℕ) (xs : List ℕ) → lead xs < length xs → word (c * pivot xs) ≡ 0
-    → lead xs < lead (words_of (times c xs))
-lead-times_cleared c xs within clears =
-    let all : lead xs + 1 ≤ lead (words_of (times c xs)) =
-    lead-after (words_of (times c xs)) (lead xs + 1) (omega (arith, length-wrapped_times c xs))
-    (below_more _ _ (times_below c xs) (get_or-wrapped_times c xs (lead xs) ∙ clears)) in
-    omega arith
-
--- a lead that stays
-pivot_kept : (c : ℕ) (xs ys : List ℕ) → length xs ≡ length ys → lead xs < lead ys → words_of xs ≡ xs
-    → get_or (words_of (plus c xs ys)) (lead xs) 0 ≡ pivot xs
-pivot_kept c xs ys e later words =
-    get_or-wrapped_plus c xs ys (lead xs) e
-    ∙ ap word (let m = ap (λ (n : ℕ). c * n) (get_or_before_lead ys (lead xs) later) in let s : pivot xs + c * get_or ys (lead xs) 0 ≡ pivot xs = omega arith in s)
-    ∙ sym (get_or-words_of xs (lead xs)) ∙ ap (λ zs. get_or zs (lead xs) 0) words
-
-pub lead-plus_kept : (c : ℕ) (xs ys : List ℕ) → length xs ≡ length ys → lead xs < lead ys
-    → words_of xs ≡ xs → lead (words_of (plus c xs ys)) ≡ lead xs
-lead-plus_kept c xs ys e later words =
-    lead_from_index (words_of (plus c xs ys)) (lead xs) (omega (arith, length-wrapped_plus c xs ys e, lead-le ys))
-    (λ gone. get_or_at_lead xs (omega (arith, lead-le ys)) (sym (pivot_kept c xs ys e later words) ∙ gone))
-    (plus_below c xs ys (lead xs) e (omega arith) (omega arith))
-
-pub lead-times_kept : (c : ℕ) (xs : List ℕ) → lead xs < length xs → word (c * pivot xs) ≢ 0
-    → lead (words_of (times c xs)) ≡ lead xs
-lead-times_kept c xs within kept =
-    lead_from_index (words_of (times c xs)) (lead xs) (omega (arith, length-wrapped_times c xs))
-    (λ gone. kept (sym (get_or-wrapped_times c xs (lead xs)) ∙ gone))
-    (times_below c xs)
 
 -- sums, multiples and zeros are rows
 pub IsRow-zeros : (n : ℕ) → IsRow n (replicate n 0)
@@ -363,39 +302,3 @@ IsRow-times n c xs x = record {
 pub IsWord-get_or : (n : ℕ) (xs : List ℕ) → IsRow n xs → (i : ℕ) → IsWord (get_or xs i 0)
 IsWord-get_or n xs row i =
     subst IsWord (sym (get_or-words_of xs i) ∙ ap (λ ys. get_or ys i 0) row.words) (mod-lt (get_or xs i 0) (lit< tt))
-
--- what was added is taken away, and what was multiplied is divided by
-pub words_of-plus_back : (c d : ℕ) (xs ys : List ℕ) → length xs ≡ length ys → word (c + d) ≡ 0
-    → words_of (plus d (words_of (plus c xs ys)) ys) ≡ words_of xs
-words_of-plus_back c d xs ys e cancels =
-    words_of-plus_first d (plus c xs ys) ys ∙ ap words_of (plus-plus_same d c xs ys) ∙ sym (words_of-plus_factor (d + c) xs ys)
-    ∙ ap (λ k. words_of (plus k xs ys)) (ap word (let s : d + c ≡ c + d = omega arith in s) ∙ cancels)
-    ∙ ap words_of (plus-zero xs ys e)
-
-pub words_of-times_back : (c d : ℕ) (xs : List ℕ) → word (c * d) ≡ 1
-    → words_of (times d (words_of (times c xs))) ≡ words_of xs
-words_of-times_back c d xs inverse =
-    words_of-times d (times c xs) ∙ ap words_of (times-times d c xs) ∙ sym (words_of-times_factor (d * c) xs)
-    ∙ ap (λ k. words_of (times k xs)) (ap word (let s : d * c ≡ c * d = omega arith in s) ∙ inverse)
-    ∙ ap words_of (times-one xs)
-
--- powers of two: 2^(64 - t) clears 2^t, and only its multiples do
-pub word-pow_cleared : (t : ℕ) → t ≤ 64 → word (2 ^ (64 - t) * 2 ^ t) ≡ 0
-word-pow_cleared t small =
-    ap word (sym (pow-add 2 (64 - t) t) ∙ ap (λ n. 2 ^ n) (let s : 64 - t + t ≡ 64 = omega arith in s))
-
-pub multiple_from_cleared : (c t : ℕ) → t ≤ 64 → word (c * 2 ^ t) ≡ 0 → c ≡ 2 ^ (64 - t) * (c / 2 ^ (64 - t))
-multiple_from_cleared c t small clears =
-    let whole : 64 - t + t ≡ 64 = omega arith in
-    let high : (c * 2 ^ t / 2 ^ t % 2 ^ (64 - t)) * 2 ^ t + c * 2 ^ t % 2 ^ t ≡ 0 =
-    sym (mod-pow-add (c * 2 ^ t) (64 - t) t) ∙ ap (λ n. c * 2 ^ t % 2 ^ n) whole ∙ clears in
-    let low : c * 2 ^ t / 2 ^ t % 2 ^ (64 - t) ≡ 0 =
-    omega (arith, le-mul_of_pos_right (c * 2 ^ t / 2 ^ t % 2 ^ (64 - t)) (pow_pos t)) in
-    let none : c % 2 ^ (64 - t) ≡ 0 = ap (λ n. n % 2 ^ (64 - t)) (sym (shl-shr c t)) ∙ low in
-    omega (arith, div-add-mod c (2 ^ (64 - t)))
-
--- a word 2^t * u times the inverse of u
-pub word-inverse : (t u v : ℕ) → t < 64 → word (u * v) ≡ 1 → word (v * (2 ^ t * u)) ≡ 2 ^ t
-word-inverse t u v small inverse =
-    ap word (let s : v * (2 ^ t * u) ≡ 2 ^ t * (u * v) = omega arith in s) ∙ sym (mul-mod_second (2 ^ t) (u * v) (2 ^ 64))
-    ∙ ap (λ n. word (2 ^ t * n)) inverse ∙ ap word (let s : 2 ^ t * 1 ≡ 2 ^ t = omega arith in s) ∙ mod-eq_of_lt (pow_below t 64 small)
