@@ -1,4 +1,4 @@
--- Points of straight code that follow one another.
+-- Points of straight code that follow one another. No public contract cites these words.
 --
 --   Spans registers points p states       the rows span the states at the point p, of which there are some
 --   SpansAt registers points i states     so they do at the point with the number i

@@ -1,15 +1,17 @@
 -- Code is refused for one cause.
-use Rattle.std.proofs.Common.{◌≡◌, ℕ, ◌<◌, ◌%◌, ℤ, pos, Bool, true, false, eqb, ◌&&◌, ◌||◌, if◌then◌else◌, Option, None, Some, Result, Ok, Err, refl, sym, ap, subst, ◌∙◌, arith}
+use Rattle.std.proofs.Common.{◌≡◌, ◌≢◌, ℕ, ◌<◌, ◌%◌, ℤ, pos, Bool, true, false, eqb, ◌&&◌, ◌||◌, if◌then◌else◌, Option, None, Some, Result, Ok, Err, refl, sym, ap, subst, ◌∙◌, arith}
 use Rattle.std.specs.Ordering.{int_eq}
 use Rattle.rv_decode.specs.declared.instructions.Instr.{Instr}
 use Rattle.rv_decode.specs.declared.instructions.Instr.TheVariants.{Jal, Jalr, Branch as BranchInstr}
 use Rattle.flow_points.specs.Flows.{Judged, aligned, flow_of, indirect, known, linked, next, outside, pair_target, plus, unknown}
-use Rattle.flow_points.specs.Refusals.{HasCause, IsFirstCause, IsRefusal, bad_point, into_pair, number_of, place_of, there, too_many}
+use Rattle.elf_image.specs.Images.{code_word}
+use Rattle.elf_image.specs.declared.image.Image.{Image}
+use Rattle.flow_points.specs.Refusals.{HasCause, IsBad, IsFlowRefusal, IsFirstCause, IsRefusal, bad_point, into_pair, number_of, place_of, there, too_many}
 use Rattle.flow_points.specs.declared.steps.Flow.{Flow}
 use Rattle.flow_points.specs.declared.steps.Flow.TheVariants.{Branch, Call, Jump, Return}
 use Rattle.flow_points.specs.declared.steps.Point.{Point}
 use Rattle.flow_points.specs.declared.refusal.FlowRefusal.{FlowRefusal}
-use Rattle.flow_points.specs.declared.refusal.FlowRefusal.TheVariants.{IndirectJump, IntoPair, MisalignedTarget, NoInstruction, OddLink, OutsideCode}
+use Rattle.flow_points.specs.declared.refusal.FlowRefusal.TheVariants.{IndirectJump, IntoPair, MisalignedTarget, NoInstruction, OddLink, OutsideCode, TooManyPoints}
 use Rattle.flow_points.proofs.OneOutcome.{judged_once}
 
 -- a cause that names this address and comes before the last one
@@ -99,3 +101,14 @@ one_refusal fetch entry r s (too_many more e) (too_many more' d) = e ∙ sym d
 one_refusal fetch entry r s (too_many more e) (bad_point few g) = absurd (few more)
 one_refusal fetch entry r s (bad_point few f) (too_many more d) = absurd (few more)
 one_refusal fetch entry r s (bad_point few f) (bad_point few' g) = one_first fetch entry r s f g
+
+-- a cause names the address of its point
+caused_at : (fetch : ℕ → Option ℕ) (entry : ℕ) (p : Point) (r : FlowRefusal) → HasCause fetch entry p r → p.address ≡ place_of r
+caused_at fetch entry p r (there j) = let here = judged_named fetch p.address r j in sym here.place
+caused_at fetch entry p r (into_pair entered half e) = sym (ap place_of e)
+
+pub bad_point_named : (image : Image) (r : FlowRefusal) → IsFlowRefusal image r → r ≢ TooManyPoints 4096 →
+    (p : Point) × IsBad image p × (p.address ≡ place_of r)
+bad_point_named image r (too_many more e) other = absurd (other e)
+bad_point_named image r (bad_point few f) other =
+    (f.at, (f.reached, (r, f.bad)), caused_at (code_word image) image.entry f.at r f.bad)

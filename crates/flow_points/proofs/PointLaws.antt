@@ -1,5 +1,5 @@
 -- What follows of points, whatever the code is.
-use Rattle.std.proofs.Common.{◌≡◌, ◌≤◌, ◌<◌, ◌+◌, ℕ, nat_eq, List, length, get_or, false, Contains, refl, sym, ap, subst, inl, inr, arith}
+use Rattle.std.proofs.Common.{◌≡◌, ◌↔◌, ◌≤◌, ◌<◌, ◌+◌, ℕ, nat_eq, List, length, get_or, false, Contains, refl, sym, ap, subst, inl, inr, arith}
 use Rattle.std.specs.Cmp.{nat_cmp_is}
 use Rattle.std.specs.List.Sorted.{IsSorted, IsStrictlyIncreasing}
 use Rattle.std.specs.Ordering.{is_lt, nat_cmp}
@@ -9,12 +9,22 @@ use Rattle.std.proofs.lemmas.List.{get_or-map, length-map}
 use Rattle.std.proofs.lemmas.List.Elements.{All-contains}
 use Rattle.std.proofs.lemmas.List.Kept.{Contains-dedup_nat, Contains-from_dedup}
 use Rattle.std.proofs.lemmas.Map.Keys.{IsStrictlyIncreasing-dedup}
-use Rattle.flow_points.specs.Walks.{FlowWalk, begin, onward, start, successors_of}
+use Rattle.elf_image.specs.declared.image.Image.{Image}
+use Rattle.flow_points.specs.Walks.{FlowWalk, IsPoint, begin, onward, start, successors_of}
 use Rattle.flow_points.specs.Sites.{IsCode}
-use Rattle.flow_points.specs.PointLists.{FlowPoints, HasCode, IsBefore, entries_of, places_of}
+use Rattle.flow_points.specs.PointLists.{FlowPoints, ArePointsOf, HasCode, IsBefore, entries_of, places_of}
 use Rattle.flow_points.specs.declared.steps.CodePoint.{CodePoint}
 use Rattle.flow_points.specs.declared.steps.Point.{Point}
+use Rattle.flow_points.proofs.Jumps.{from_map}
 use Rattle.flow_points.proofs.Ascent.{some_item}
+
+pub walk_ends : (image : Image) (points : FlowPoints) (p : Point) → ArePointsOf image points → IsPoint image p ↔ Contains (places_of points.points) p
+walk_ends image points p are = (are.all p, ends)
+  where
+    ends : Contains (places_of points.points) p → IsPoint image p
+    ends at =
+        let (c, there, is) = from_map (λ (d : CodePoint). d.point) points.points p at in
+        subst (IsPoint image) is (All-contains (λ (d : CodePoint). IsPoint image d.point) points.points c are.only there)
 
 pub begins : (points : FlowPoints) → HasCode points → Contains (places_of points.points) (start points.entry)
 begins points has = has.are.all (start points.entry) (begin (start points.entry) refl)

@@ -1,14 +1,20 @@
 //! What follows of points, whatever the code is, and of refusals.
 
-ghost use Rattle.std.specs.Prelude.{◌≡◌, ℕ, Contains};
+ghost use Rattle.std.specs.Prelude.{◌≡◌, ◌≢◌, ◌↔◌, ℕ, Contains};
 ghost use Rattle.elf_image.specs.declared.image.Image.{Image};
 ghost use Rattle.std.specs.List.Sorted.{IsStrictlyIncreasing};
-ghost use Rattle.flow_points.specs.Walks.{start, successors_of};
-ghost use Rattle.flow_points.specs.Refusals.{IsFlowRefusal};
+ghost use Rattle.flow_points.specs.Walks.{IsPoint, start, successors_of};
+ghost use Rattle.flow_points.specs.Refusals.{IsBad, IsFlowRefusal, place_of};
 ghost use Rattle.flow_points.specs.declared.refusal.FlowRefusal.{FlowRefusal};
-ghost use Rattle.flow_points.specs.PointLists.{FlowPoints, HasCode, entries_of, places_of};
+ghost use Rattle.flow_points.specs.declared.refusal.FlowRefusal.TheVariants.{TooManyPoints};
+ghost use Rattle.flow_points.specs.PointLists.{FlowPoints, ArePointsOf, HasCode, entries_of, places_of};
 ghost use Rattle.flow_points.specs.declared.steps.CodePoint.{CodePoint};
 ghost use Rattle.flow_points.specs.declared.steps.Point.{Point};
+
+/// The points of an image are those at which a walk along the flow ends.
+pub fn points_are_walk_ends()
+    ensures { (image : Image) (points : FlowPoints) (p : Point) → ArePointsOf image points → IsPoint image p ↔ Contains (places_of points.points) p }
+{}
 
 /// The start is a point, and so is where the flow goes on from a point.
 pub fn points_are_closed()
@@ -27,4 +33,10 @@ pub fn procedures_ascend()
 /// An image is refused for one cause alone.
 pub fn refusal_is_one()
     ensures { (image : Image) (r s : FlowRefusal) → IsFlowRefusal image r → IsFlowRefusal image s → r ≡ s }
+{}
+
+/// An image that isn't refused for the number of its points is refused at a bad one.
+pub fn refusal_names_a_bad_point()
+    ensures { (image : Image) (refusal : FlowRefusal) → IsFlowRefusal image refusal → refusal ≢ TooManyPoints 4096 →
+        (p : Point) × IsBad image p × (p.address ≡ place_of refusal) }
 {}
