@@ -4,3 +4,4 @@ pub mod LevelPaths
 pub mod OpenPaths
 pub mod Relations
 pub mod Laws
+pub mod Spans
