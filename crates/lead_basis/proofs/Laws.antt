@@ -5,6 +5,6 @@ pub use Rattle.lead_basis.proofs.Leading.{basis_rows, rest_zero, pivot_divides, 
 pub use Rattle.lead_basis.proofs.Remains.{empty_span, same_remainder, member_from_zero, zero_from_member}
 pub use Rattle.lead_basis.proofs.Taking.{leads_at, leads_rise}
 pub use Rattle.lead_basis.proofs.Between.{later_within, within_with}
-pub use Rattle.lead_basis.proofs.Uniqueness.{no_rows, first_lead, turned, transitive, unique_reduced}
+pub use Rattle.lead_basis.proofs.Uniqueness.{no_rows, first_lead, turned, transitive, unique_reduced, as_many_rows}
 pub use Rattle.lead_basis.proofs.Lengths.{length_bound}
 pub use Rattle.lead_basis.proofs.Annihilating.{same_annihilators}

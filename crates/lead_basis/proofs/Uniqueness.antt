@@ -1,5 +1,5 @@
 -- A module has one reduced basis.
-use Rattle.std.proofs.Common.{◌≡◌, ℕ, zero, suc, ◌+◌, ◌-◌, ◌*◌, ◌^◌, ◌<◌, ◌≤◌, inl, inr, List, [], ◌∷◌, All, Contains, slice_index, replicate, refl, ap, ap₂, sym, subst, ◌∙◌, arith}
+use Rattle.std.proofs.Common.{◌≡◌, ℕ, zero, suc, ◌+◌, ◌-◌, ◌*◌, ◌^◌, ◌<◌, ◌≤◌, inl, inr, List, [], ◌∷◌, length, All, Contains, slice_index, replicate, refl, ap, ap₂, sym, subst, ◌∙◌, arith}
 use Rattle.std.proofs.Math.Nat.{mul-mod_right}
 use Rattle.std.proofs.lemmas.Nat.{pow_pos}
 use Rattle.word_rows.specs.Words.{word}
@@ -100,3 +100,12 @@ unique_reduced n (x ∷ xs) [] b c r s same = no_rows n (x ∷ xs) b (λ v m. em
 unique_reduced n (x ∷ xs) (y ∷ ys) b c r s same =
     let e = unique_reduced n xs ys b.1 c.1 r.1 s.1 (record { there = later_there n x y xs ys b c same; back = later_there n y x ys xs c b (turned n (Contains (x ∷ xs)) (Contains (y ∷ ys)) same) }) in
     ap₂ (λ (row : List ℕ) (rows : List (List ℕ)). row ∷ rows) (same_firsts n x y xs ys b c same r s e) e
+
+-- bases of one module have as many rows
+pub as_many_rows : (n : ℕ) (xs ys : List (List ℕ)) → IsLeadingBasis n xs → IsLeadingBasis n ys → SameModule n (Contains xs) (Contains ys) → length xs ≡ length ys
+as_many_rows n [] [] b c same = refl
+as_many_rows n [] (y ∷ ys) b c same = ap length (sym (no_rows n (y ∷ ys) c (λ v m. empty_span n v (same.back v m))))
+as_many_rows n (x ∷ xs) [] b c same = ap length (no_rows n (x ∷ xs) b (λ v m. empty_span n v (same.there v m)))
+as_many_rows n (x ∷ xs) (y ∷ ys) b c same =
+    ap (λ (k : ℕ). suc k)
+    (as_many_rows n xs ys b.1 c.1 (record { there = later_there n x y xs ys b c same; back = later_there n y x ys xs c b (turned n (Contains (x ∷ xs)) (Contains (y ∷ ys)) same) }))
