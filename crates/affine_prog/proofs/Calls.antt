@@ -3,11 +3,11 @@ use Rattle.std.proofs.Common.{◌≡◌, ℕ, ◌+◌, ◌*◌, List, replicate,
 use Rattle.word_rows.specs.Words.{word}
 use Rattle.word_rows.specs.Rows.{words_of, plus}
 use Rattle.word_rows.proofs.Laws.{get_or-zeros}
-use Rattle.map_modules.specs.Positions.{has}
+use Rattle.row_modules.specs.Positions.{has}
 use Rattle.map_modules.specs.Matrices.{product, with_slots, linear_extension, IsAffine}
-use Rattle.map_modules.specs.Laws.{IsAdditive}
+use Rattle.row_modules.specs.Maps.{IsLinear, IsBilinear}
 use Rattle.map_modules.proofs.Entries.{IsRow-matrix}
-use Rattle.map_modules.proofs.Linear.{matrix-plus, either_plus, plus_at, product_first, product_second, extension_sum}
+use Rattle.map_modules.proofs.Linear.{IsAdditive, matrix-plus, either_plus, plus_at, product_first, product_second, extension_sum}
 use Rattle.affine_prog.specs.LevelPaths.{opening_map, call_map}
 use Rattle.affine_prog.specs.Laws.{linear_call_map, slot_words}
 
@@ -26,6 +26,12 @@ call_of_callers registers slots before callee c v w left right =
     ap (product (linear_extension registers slots callee)) (product_second before c v w left right)
     ∙ product_second (linear_extension registers slots callee) c (product before v) (product before w) (IsRow-matrix _) (IsRow-matrix _)
 
+pub call_is_bilinear : (registers slots : ℕ) (before : List ℕ) → IsBilinear 289 289 289 (linear_call_map registers slots before)
+call_is_bilinear registers slots before = record {
+  first = λ caller r. record { rows = λ n row. IsRow-matrix _; sum = call_of_callees registers slots before caller };
+  second = λ callee r. record { rows = λ n row. IsRow-matrix _; sum = call_of_callers registers slots before callee };
+}
+
 no_more : (x : ℕ) → word x ≡ word (x + 1 * 0)
 no_more x = ap word (let e : x ≡ x + 1 * 0 = omega arith in e)
 
@@ -37,10 +43,12 @@ opening_map-zeros registers slots words =
     (let z = get_or-zeros 16 i in ap word (let e : slice_index words i ≡ slice_index (replicate 16 0) i + 1 * slice_index words i = omega arith in e))
     (no_more 0)))
 
-pub slot_words_sum : (registers slots : ℕ) → IsAdditive 16 (slot_words registers slots)
-slot_words_sum registers slots c v w left right =
-    matrix-plus c _ _ _ (λ i j row column. either_plus (has registers i || (i == 16)) c _ _ _ _ _ _ (none c)
-    (either_plus (has slots i && (j == 16)) c _ _ _ _ _ _ (plus_at 16 c v w left right i) (none c)))
-  where
+pub slot_words_are_linear : (registers slots : ℕ) → IsLinear 16 289 (slot_words registers slots)
+slot_words_are_linear registers slots = record {
+  rows = λ v r. IsRow-matrix _;
+  sum = λ c v w left right.
+      matrix-plus c _ _ _ (λ i j row column. either_plus (has registers i || (i == 16)) c _ _ _ _ _ _ (none c)
+      (either_plus (has slots i && (j == 16)) c _ _ _ _ _ _ (plus_at 16 c v w left right i) (none c)));
+} where
     none : (k : ℕ) → word 0 ≡ word (0 + k * 0)
     none k = ap word (let e : 0 ≡ 0 + k * 0 = omega arith in e)

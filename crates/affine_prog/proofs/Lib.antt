@@ -1,8 +1,13 @@
-mod Sets
-mod Lists
+pub mod Sets
+pub mod Lists
 pub mod Steps
-mod Combined
+pub mod Combined
 pub mod Choices
 pub mod Calls
 pub mod Paths
-mod Ends
+pub mod Ends
+pub mod Visible
+pub mod Used
+pub mod Spanned
+pub mod Openings
+pub mod Lemmas

@@ -2,11 +2,11 @@
 use Rattle.std.proofs.Common.{◌≡◌, ℕ, zero, suc, ◌<◌, ◌^◌, List, [], ◌∷◌, drop, slice_index, All, Contains, IsTrue, refl, ap, sym, ◌∙◌, arith, if◌then◌else◌, ◌==◌, ◌&&◌, inl, inr, lit<}
 use Rattle.std.proofs.Math.Nat.{pow-le-pow_right}
 use Rattle.std.proofs.lemmas.Bool.{false≢true, cases_lt}
-use Rattle.std.proofs.lemmas.Nat.{or_lt}
+use Rattle.std.proofs.lemmas.Nat.{or_lt, pow_pos}
 use Rattle.std.proofs.lemmas.List.Elements.{All-head, All-tail, All-contains, All-weaker}
 use Rattle.word_rows.specs.Words.{word}
 use Rattle.word_rows.specs.Rows.{IsRow, IsState}
-use Rattle.map_modules.specs.Positions.{has}
+use Rattle.row_modules.specs.Positions.{has}
 use Rattle.map_modules.specs.Matrices.{matrix, identity, product, apply, extension, IsAffine}
 use Rattle.map_modules.proofs.Conditions.{or_true}
 use Rattle.map_modules.proofs.Entries.{IsRow-matrix}
@@ -20,7 +20,7 @@ use Rattle.affine_prog.specs.Programs.{edge, exit_of, slots_of, owner_of, visibl
 use Rattle.affine_prog.specs.Assignments.{position_of, constant, assignment, matrix_of}
 use Rattle.affine_prog.specs.LevelPaths.{opening_map, LevelPath, opening, step, call}
 use Rattle.affine_prog.specs.OpenPaths.{Start, OpenPath, first, enter}
-use Rattle.affine_prog.proofs.Sets.{has-above}
+use Rattle.row_modules.proofs.Laws.{has_beyond}
 
 -- the positions that an edge of a well-formed program assigns are below 16
 small_at : (n : ℕ) (xs : List ℕ) (i : ℕ) → 0 < n → All (λ s. s < n) xs → slice_index xs i < n
@@ -29,25 +29,26 @@ small_at n (x ∷ xs) zero some all = All-head (λ s. s < n) x xs all
 small_at n (x ∷ xs) (suc i) some all = small_at n xs i some (All-tail (λ s. s < n) x xs all)
 
 module _ (program : Program) (w : IsWellFormed program) where
-  sets_small : All (λ s. s < 2 ^ 16) (position_sets program)
-  sets_small =
-      let h = pow-le-pow_right {n = 2} (lit< tt) w.width in
-      All-weaker (λ s. s < 2 ^ program.width) (λ s. s < 2 ^ 16) (λ s below. omega arith) (position_sets program) w.below_width
+  pub registers_below : program.registers < 2 ^ program.width
+  registers_below = small_at (2 ^ program.width) (position_sets program) 0 (pow_pos program.width) w.below_width
+
+  pub visible_below : (p : ℕ) → visible_in program p < 2 ^ program.width
+  visible_below p =
+      or_lt program.width program.registers (slots_of program p) registers_below
+      (small_at (2 ^ program.width) (position_sets program) (suc p) (pow_pos program.width) w.below_width)
 
   visible_small : (p : ℕ) → visible_in program p < 2 ^ 16
-  visible_small p =
-      or_lt 16 program.registers (slots_of program p) (small_at (2 ^ 16) (position_sets program) 0 (lit< tt) sets_small)
-      (small_at (2 ^ 16) (position_sets program) (suc p) (lit< tt) sets_small)
+  visible_small p = let h = pow-le-pow_right {n = 2} (lit< tt) w.width in let b = visible_below p in omega arith
 
   member_below : (s i : ℕ) → s < 2 ^ 16 → IsTrue (has s i) → i < 16
-  member_below s i small member = elim (cases_lt i 16) [ inl h ↦ h | inr h ↦ absurd (false≢true (sym (has-above s i small h) ∙ member)) ]
+  member_below s i small member = elim (cases_lt i 16) [ inl h ↦ h | inr h ↦ absurd (false≢true (sym (has_beyond 16 s i small h) ∙ member)) ]
 
   placed_in : (s : ℕ) → s < 2 ^ 16 → (a : Assign) → IsAssignIn s a → position_of a < 16
   placed_in s small (Affine i row) h = member_below s i small h.0
   placed_in s small (Any i) h = member_below s i small h
 
   -- what an edge of the program makes
-  edge_at : (e : Edge) → Contains program.edges e → IsKindIn program (owner_of program e.from) e.kind
+  pub edge_at : (e : Edge) → Contains program.edges e → IsKindIn program (owner_of program e.from) e.kind
   edge_at e contains = let h = All-contains (IsEdgeOf program) program.edges e w.edges contains in h.kind
 
   pub step_placed : (u v : ℕ) (assigns : List Assign) → Contains program.edges (edge u v (Do assigns)) → All (λ a. position_of a < 16) assigns

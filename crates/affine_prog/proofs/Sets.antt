@@ -1,7 +1,7 @@
 -- Sets of positions as the bits of numbers.
 use Rattle.std.proofs.Common.{◌≡◌, ℕ, ◌<◌, ◌≤◌, ◌^◌, ◌==◌, false, ap, sym, ◌∙◌, arith, bit_and, bit_or, min}
 use Rattle.std.specs.Int.{bit_at}
-use Rattle.map_modules.specs.Positions.{has}
+use Rattle.row_modules.specs.Positions.{has}
 use Rattle.std.proofs.lemmas.Nat.Bits.{bit_at_and, bit_at_or, bit_at-zero, same_from_bits, bit_at_above}
 
 -- a set shares nothing with two others exactly where it shares nothing with their union
@@ -20,7 +20,3 @@ parts_apart a s t e = (
   apart_from_bits a t (λ i. let x = bits_apart (bit_or a s) t e i in let z = bit_at_or a s i in omega arith),
   apart_from_bits s t (λ i. let x = bits_apart (bit_or a s) t e i in let z = bit_at_or a s i in omega arith),
 )
-
--- a set of 16 positions has none from 16 on
-pub has-above : (s i : ℕ) → s < 2 ^ 16 → 16 ≤ i → has s i ≡ false
-has-above s i below above = ap (λ n. n == 1) (bit_at_above s 16 i below above)

@@ -4,17 +4,17 @@ use Rattle.std.proofs.lemmas.Bool.{ne_eqb}
 use Rattle.word_rows.specs.Words.{word}
 use Rattle.word_rows.specs.Rows.{words_of, plus}
 use Rattle.map_modules.specs.Matrices.{entry, matrix, sum_below, product, after_affine}
-use Rattle.map_modules.specs.Laws.{IsAdditive}
+use Rattle.row_modules.specs.Maps.{IsLinear}
 use Rattle.map_modules.proofs.Sums.{word-add, word-mul, word-word, sum_below_same, sum_below_pick}
-use Rattle.map_modules.proofs.Entries.{entry-matrix, same_matrix, get_or-vector}
+use Rattle.map_modules.proofs.Entries.{IsRow-matrix, entry-matrix, same_matrix, get_or-vector}
 use Rattle.map_modules.proofs.Linear.{matrix-plus, either_plus, product_second}
 use Rattle.map_modules.proofs.Products.{product-product, after_affine-product}
 use Rattle.affine_prog.specs.declared.Assign.{Assign}
 use Rattle.affine_prog.specs.Assignments.{constant, assignment, matrix_of}
 use Rattle.affine_prog.specs.LevelPaths.{step_map}
 
-pub step_of_sums : (assigns : List Assign) (words : List ℕ) → IsAdditive 289 (step_map assigns words)
-step_of_sums assigns words = product_second (matrix_of assigns words)
+pub step_is_linear : (assigns : List Assign) (words : List ℕ) → IsLinear 289 289 (step_map assigns words)
+step_is_linear assigns words = record { rows = λ m r. IsRow-matrix _; sum = product_second (matrix_of assigns words) }
 
 -- one assignment, and then the rest
 pub step_map-cons : (m row b : List ℕ) (i : ℕ) → product (product b (assignment i row)) m ≡ product b (after_affine m i row)

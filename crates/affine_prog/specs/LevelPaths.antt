@@ -16,7 +16,7 @@
 --   opening_map registers slots words   keeps the registers and the constant, sets each slot i to word i, clears all else
 use Rattle.std.specs.Prelude.{◌≡◌, ℕ, ◌<◌, List, length, Contains, slice_index, if◌then◌else◌, ◌==◌, ◌&&◌, ◌||◌}
 use Rattle.word_rows.specs.Rows.{IsRow}
-use Rattle.map_modules.specs.Positions.{has}
+use Rattle.row_modules.specs.Positions.{has}
 use Rattle.map_modules.specs.Matrices.{matrix, product, extension}
 use Rattle.affine_prog.specs.declared.Program.{Program}
 use Rattle.affine_prog.specs.declared.Kind.TheVariants.{Do, Call}

@@ -10,17 +10,18 @@
 --                                  a level path of the callee, whose maps are applied in turn
 use Rattle.std.specs.Prelude.{◌≡◌, ℕ, List, Contains}
 use Rattle.word_rows.specs.Rows.{IsState}
+use Rattle.row_modules.specs.Positions.{with_constant, IsZeroOutside}
 use Rattle.map_modules.specs.Matrices.{apply}
 use Rattle.affine_prog.specs.declared.Program.{Program}
 use Rattle.affine_prog.specs.declared.Kind.TheVariants.{Call}
 use Rattle.affine_prog.specs.declared.Assign.{Assign}
-use Rattle.affine_prog.specs.Programs.{edge, IsWithin}
+use Rattle.affine_prog.specs.Programs.{edge}
 use Rattle.affine_prog.specs.Assignments.{Choice, matrix_of}
 use Rattle.affine_prog.specs.LevelPaths.{LevelPath}
 
 pub record Start (program : Program) (v : List ℕ) : Type 0 where
   pub state : IsState v
-  pub registers : IsWithin program.registers v
+  pub registers : IsZeroOutside (with_constant program.registers) v
 
 pub data OpenPath (program : Program) (start : List ℕ) : ℕ → List ℕ → Type 0 where
   first : (u : ℕ) (m v : List ℕ)

@@ -9,14 +9,14 @@
 --   visible_in program p      the set of the positions that have a name in procedure p: the registers, and its slots
 --   position_sets program     the set of registers, and the set of slots of each procedure
 --   AreDisjoint s t           no position is in both sets
---   IsWithin s row            the row is 0 at each position below 16 that isn't in s
---   IsAssignIn s assign       the position that is assigned is in s, and the row that it reads by is within s
+--   IsAssignIn s assign       the position that is assigned is in s, and the row that it reads by is 0 outside s and
+--                             the constant's position
 --   IsKindIn program p kind   all that is assigned is visible in p, and the callee is a procedure
 --   OwnsItsEnds program p     the entry and the exit of p are nodes that p owns
 --   IsEdgeOf program e        e goes between two nodes of one procedure, and its kind is in that procedure
 --   IsWellFormed program      the program is well formed
-use Rattle.std.specs.Prelude.{◌≡◌, ℕ, ◌<◌, ◌≤◌, ◌^◌, List, ◌∷◌, length, map, slice_index, All, AllPairs, false, bit_and, bit_or, IsTrue}
-use Rattle.map_modules.specs.Positions.{has}
+use Rattle.std.specs.Prelude.{◌≡◌, ℕ, ◌<◌, ◌≤◌, ◌^◌, List, ◌∷◌, length, map, slice_index, All, AllPairs, bit_and, bit_or, IsTrue}
+use Rattle.row_modules.specs.Positions.{has, with_constant, IsZeroOutside}
 use Rattle.affine_prog.specs.declared.Program.{Program}
 use Rattle.affine_prog.specs.declared.Edge.{Edge}
 use Rattle.affine_prog.specs.declared.Kind.{Kind}
@@ -48,11 +48,8 @@ position_sets program = program.registers ∷ map (λ proc. proc.slots) program.
 abbrev pub AreDisjoint : ℕ → ℕ → Type 0
 AreDisjoint s t = bit_and s t ≡ 0
 
-abbrev pub IsWithin : ℕ → List ℕ → Type 0
-IsWithin s row = (k : ℕ) → k < 16 → has s k ≡ false → slice_index row k ≡ 0
-
 abbrev pub IsAssignIn : ℕ → Assign → Type 0
-IsAssignIn s (Affine i row) = IsTrue (has s i) × IsWithin s row
+IsAssignIn s (Affine i row) = IsTrue (has s i) × IsZeroOutside (with_constant s) row
 IsAssignIn s (Any i) = IsTrue (has s i)
 
 pub record OwnsItsEnds (program : Program) (p : ℕ) : Type 0 where

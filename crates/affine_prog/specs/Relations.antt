@@ -8,9 +8,10 @@
 --   Certified program p r   every level path of procedure p to its exit leaves position r as it was, from every state
 use Rattle.std.specs.Prelude.{◌≡◌, ℕ, List, slice_index}
 use Rattle.word_rows.specs.Rows.{IsRow, IsState, dot}
+use Rattle.row_modules.specs.Positions.{with_constant, IsZeroOutside}
 use Rattle.map_modules.specs.Matrices.{apply}
 use Rattle.affine_prog.specs.declared.Program.{Program}
-use Rattle.affine_prog.specs.Programs.{exit_of, owner_of, visible_in, IsWithin}
+use Rattle.affine_prog.specs.Programs.{exit_of, owner_of, visible_in}
 use Rattle.affine_prog.specs.LevelPaths.{LevelPath}
 use Rattle.affine_prog.specs.OpenPaths.{Start, OpenPath}
 
@@ -22,7 +23,7 @@ pub record IsReached (program : Program) (u : ℕ) : Type 0 where
 
 pub record Holds (program : Program) (u : ℕ) (a : List ℕ) : Type 0 where
   pub row : IsRow 17 a
-  pub visible : IsWithin (visible_in program (owner_of program u)) a
+  pub visible : IsZeroOutside (with_constant (visible_in program (owner_of program u))) a
   pub zero : (start v : List ℕ) → Start program start → OpenPath program start u v → dot a v ≡ 0
 
 pub record Returns (program : Program) (p : ℕ) : Type 0 where

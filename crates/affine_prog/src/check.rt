@@ -1,8 +1,8 @@
 //! The test that a program is well formed.
 
 ghost use Rattle.std.specs.Prelude.{◌≡◌, ℕ, ◌<◌, ◌≤◌, ◌^◌, ◌↔◌, IsTrue, All, AllPairs, length, true};
-ghost use Rattle.map_modules.specs.Positions.{has};
-ghost use Rattle.affine_prog.specs.Programs.{owner_of, visible_in, position_sets, AreDisjoint, IsWithin, IsAssignIn, OwnsItsEnds, IsKindIn, IsEdgeOf, IsWellFormed};
+ghost use Rattle.row_modules.specs.Positions.{has, with_constant, IsZeroOutside};
+ghost use Rattle.affine_prog.specs.Programs.{owner_of, visible_in, position_sets, AreDisjoint, IsAssignIn, OwnsItsEnds, IsKindIn, IsEdgeOf, IsWellFormed};
 
 use crate::{Assign, Edge, Kind, Proc, Program};
 use word_rows::Row;
@@ -129,10 +129,11 @@ fn own_their_ends(program: &Program) -> bool
     true
 }
 
-/// Whether the row is 0 at each position below 16 outside the set.
-fn is_within(set: u16, row: &Row<17>) -> bool
-    ensures { IsTrue result ↔ IsWithin set row.now }
+/// Whether the row is 0 at each position outside the set and the constant's.
+fn is_zero_outside(set: u16, row: &Row<17>) -> bool
+    ensures { IsTrue result ↔ IsZeroOutside (with_constant set) row.now }
 {
+    row.known();
     for k in 0..16u8 {
         if !has(set, k) && row.get(k as usize) != 0 {
             return false;
@@ -146,7 +147,7 @@ fn is_assign_in(set: u16, assign: &Assign) -> bool
     ensures { IsTrue result ↔ IsAssignIn set assign.now }
 {
     match assign {
-        Assign::Affine(i, row) => has(set, *i) && is_within(set, row),
+        Assign::Affine(i, row) => has(set, *i) && is_zero_outside(set, row),
         Assign::Any(i) => has(set, *i),
     }
 }

@@ -20,6 +20,7 @@ mod tests;
 pub use check::well_formed;
 pub use laws::{
     calls_are_bilinear, openings_are_affine, paths_end_at_nodes, paths_keep_states,
+    paths_use_few_positions, relations_annihilate_states, starts_are_spanned,
     steps_are_affine_in_choices,
 };
 use sqlite_items::Items;

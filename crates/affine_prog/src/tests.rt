@@ -262,4 +262,7 @@ fn laws_run_nothing() {
     openings_are_affine();
     paths_keep_states();
     paths_end_at_nodes();
+    paths_use_few_positions();
+    starts_are_spanned();
+    relations_annihilate_states();
 }

@@ -1,12 +1,14 @@
 -- The relations at a point, from the module of the states there.
-use Rattle.std.proofs.Common.{◌≡◌, ◌≢◌, ℕ, ◌<◌, ◌≤◌, inl, inr, List, Contains, Some, slice_get, length, map, get_or, refl, arith}
+use Rattle.std.proofs.Common.{false, ◌≡◌, ◌≢◌, ℕ, ◌<◌, ◌≤◌, inl, inr, List, Contains, Some, slice_get, length, map, get_or, refl, arith}
 use Rattle.std.proofs.lemmas.Bool.{cases_lt, cases_eq}
 use Rattle.std.proofs.lemmas.List.{get_or_past}
 use Rattle.std.proofs.lemmas.List.Elements.{Contains-get_or}
 use Rattle.std.proofs.lemmas.Option.{slice_get-map, slice_get-get_or}
 use Rattle.word_rows.specs.Rows.{lead}
 use Rattle.row_modules.specs.Modules.{Generates}
-use Rattle.lead_basis.specs.Annihilators.{Annihilates, IsVisible}
+use Rattle.row_modules.specs.Forms.{Annihilates}
+use Rattle.row_modules.specs.Positions.{has}
+use Rattle.row_modules.proofs.Laws.{in_or_out, in_not_out}
 use Rattle.lead_basis.proofs.Laws.{leads_at}
 use Rattle.relation_solver.proofs.Following.{follow_states}
 use Rattle.relation_solver.specs.Zero.{HasZeroAlone}
@@ -28,19 +30,22 @@ holds_from : (registers : List ℕ) (points : FlowPoints) (p : Point) (visible :
     Annihilates visible (IsStateAt registers points p) a → Holds registers points p a
 holds_from registers points p visible a shown n = record {
   row = n.on_visible.row;
-  unused = λ k least most. n.on_visible.hidden k (λ is. elim ((shown k).0 is) [ inl below ↦ omega arith | inr last ↦ omega arith ]);
+  unused = λ k least most. elim (in_or_out visible k) [
+    | inl is ↦ absurd (elim ((shown k).0 is) [ inl below ↦ omega arith | inr last ↦ omega arith ])
+    | inr out ↦ n.on_visible.hidden k out
+  ];
   zero = n.vanishes;
 }
 
 hidden_zero : (registers : List ℕ) (points : FlowPoints) (p : Point) (visible : ℕ) (a : List ℕ) → AreVisible visible (length registers) →
-    Holds registers points p a → (k : ℕ) → ¬ IsVisible visible k → get_or a k 0 ≡ 0
+    Holds registers points p a → (k : ℕ) → has visible k ≡ false → get_or a k 0 ≡ 0
 hidden_zero registers points p visible a shown h k hidden =
     elim (cases_lt k (length registers)) [
-      | inl named ↦ absurd (hidden ((shown k).1 (inl named)))
+      | inl named ↦ absurd (in_not_out visible k ((shown k).1 (inl named)) hidden)
       | inr free ↦ elim (cases_lt k 16) [
         | inl under ↦ h.unused k free under
         | inr most ↦ elim (cases_eq k 16) [
-          | inl last ↦ absurd (hidden ((shown k).1 (inr last)))
+          | inl last ↦ absurd (in_not_out visible k ((shown k).1 (inr last)) hidden)
           | inr other ↦ let width = h.row.width in get_or_past a k 0 (omega arith)
         ]
       ]

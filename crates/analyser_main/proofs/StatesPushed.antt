@@ -5,8 +5,9 @@ use Rattle.row_modules.specs.Modules.{AreRows, SameModule}
 use Rattle.affine_prog.specs.declared.Assign.{Assign}
 use Rattle.module_push.specs.Images.{IsImage, Images}
 use Rattle.module_push.specs.Starts.{IsStartRow}
-use Rattle.module_push.proofs.Maps.{IsRow-set, images_same}
-use Rattle.module_push.proofs.Unions.{same_with, same_members}
+use Rattle.word_rows.proofs.Laws.{IsRow-set}
+use Rattle.module_push.proofs.Maps.{images_same}
+use Rattle.row_modules.proofs.Laws.{same_with, same_members}
 use Rattle.flow_points.specs.Walks.{start}
 use Rattle.flow_points.specs.PointLists.{FlowPoints}
 use Rattle.flow_points.specs.declared.steps.Point.{Point}

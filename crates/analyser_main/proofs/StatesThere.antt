@@ -8,7 +8,7 @@ use Rattle.word_rows.specs.Rows.{IsRow, IsState, dot}
 use Rattle.row_modules.specs.Modules.{AreRows}
 use Rattle.affine_prog.specs.declared.Assign.{Assign}
 use Rattle.affine_prog.specs.declared.Assign.TheVariants.{Affine, Any}
-use Rattle.module_push.proofs.Maps.{IsRow-set}
+use Rattle.word_rows.proofs.Laws.{IsRow-set}
 use Rattle.flow_points.specs.PointLists.{FlowPoints}
 use Rattle.flow_points.specs.declared.steps.Point.{Point}
 use Rattle.rv_decode.specs.declared.instructions.Instr.{Instr}

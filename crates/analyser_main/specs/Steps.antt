@@ -7,7 +7,7 @@ use Rattle.row_modules.specs.Modules.{IsCombination, Generates, SameModule}
 use Rattle.row_modules.specs.Bases.{IsLeadingBasis, IsReduced}
 use Rattle.affine_prog.specs.declared.Assign.{Assign}
 use Rattle.module_push.specs.Images.{Images}
-use Rattle.lead_basis.specs.Annihilators.{Annihilates}
+use Rattle.row_modules.specs.Forms.{Annihilates}
 use Rattle.relation_solver.specs.Zero.{HasZeroAlone}
 use Rattle.report_text.specs.declared.points.PointState.{PointState}
 use Rattle.report_text.specs.declared.points.PointState.TheVariants.{Unreached, Rows}

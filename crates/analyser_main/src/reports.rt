@@ -1,9 +1,9 @@
 //! The report of straight code: the module of the states at each point, and its relations.
 
-ghost use Rattle.std.specs.Prelude.{◌≡◌, ◌≢◌, ◌≤◌, ◌<◌, ◌+◌, ◌-◌, ◌↔◌, ◌⊎◌, ℕ, length, All, AllPairs, Contains, IsBitSet, IfOk, IfErr, IsSomeAnd, map, slice_get};
+ghost use Rattle.std.specs.Prelude.{◌≡◌, IsTrue, ◌≢◌, ◌≤◌, ◌<◌, ◌+◌, ◌-◌, ◌↔◌, ◌⊎◌, ℕ, length, All, AllPairs, Contains, IfOk, IfErr, IsSomeAnd, map, slice_get};
 ghost use Rattle.row_modules.specs.Modules.{SameModule};
 ghost use Rattle.rv_decode.specs.Instructions.{IsWellFormed};
-ghost use Rattle.lead_basis.specs.Annihilators.{IsVisible};
+ghost use Rattle.row_modules.specs.Positions.{has};
 ghost use Rattle.relation_solver.specs.Zero.{HasZeroAlone};
 ghost use Rattle.report_text.specs.declared.names.Name.TheVariants.{Register};
 ghost use Rattle.flow_points.specs.Walks.{start};
@@ -111,7 +111,7 @@ fn names_of(alloc: Global, registers: &[u8]) -> Result<Items<Name>, AllocError>
 // The positions of k registers and of the constant.
 fn visible_positions(k: usize) -> u32
     requires { k ≤ 16 }
-    ensures { (j : ℕ) → IsBitSet result j ↔ (j < k) ⊎ (j ≡ 16) }
+    ensures { (j : ℕ) → IsTrue (has result j) ↔ (j < k) ⊎ (j ≡ 16) }
 {
     let mut visible = 1u32 << 16;
     for i in 0..k {
@@ -122,7 +122,7 @@ fn visible_positions(k: usize) -> u32
 
 // The relations of the states, where there are states.
 fn state_of(alloc: Global, states: &Basis<17>, visible: u32) -> Result<PointState, Refusal>
-    requires { IsVisible visible 16 }
+    requires { IsTrue (has visible 16) }
     ensures state { IfOk result (Relates visible states.now) }
     ensures refusal { IfErr result (λ refusal. refusal ≡ Refusal.Memory) }
 {

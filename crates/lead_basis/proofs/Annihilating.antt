@@ -6,7 +6,8 @@ use Rattle.row_modules.specs.Maps.{Image}
 use Rattle.row_modules.specs.Bases.{IsLeadingBasis}
 use Rattle.row_modules.proofs.Laws.{generator}
 use Rattle.row_modules.proofs.Laws.{vanishes_on_module}
-use Rattle.lead_basis.specs.Annihilators.{IsOnVisible, Annihilates}
+use Rattle.row_modules.specs.Positions.{IsRowOn}
+use Rattle.row_modules.specs.Forms.{Annihilates}
 use Rattle.lead_basis.specs.Products.{Behind, extended}
 use Rattle.lead_basis.proofs.Leading.{basis_rows}
 use Rattle.lead_basis.proofs.Extending.{drop_extended, behind_zeros, zero_on_rows}
@@ -14,7 +15,7 @@ use Rattle.lead_basis.proofs.Trailing.{rows_within}
 
 -- what stands behind products that are 0 annihilates
 pub annihilates_behind : (visible : ℕ) (rows wide basis : List (List ℕ)) → length rows ≤ 17 → AreRows 17 (Contains rows)
-    → ((w : List ℕ) → IsCombination 34 (Contains wide) w ↔ Image (extended 17 rows) (IsOnVisible visible) w)
+    → ((w : List ℕ) → IsCombination 34 (Contains wide) w ↔ Image (extended 17 rows) (IsRowOn 17 visible) w)
     → ((a : List ℕ) → IsCombination 17 (Contains basis) a ↔ Image (λ w. drop 17 w) (Behind 17 (IsCombination 34 (Contains wide))) a)
     → (a : List ℕ) → IsCombination 17 (Contains basis) a ↔ Annihilates visible (IsCombination 17 (Contains rows)) a
 annihilates_behind visible rows wide basis short are first second a = (
@@ -36,12 +37,12 @@ annihilates_behind visible rows wide basis short are first second a = (
 
 -- so does the reduced basis of the same module
 pub annihilates_reduced : (visible : ℕ) (source rows wide basis reduced : List (List ℕ)) → rows ≡ source → IsLeadingBasis 17 source
-    → ((w : List ℕ) → IsCombination 34 (Contains wide) w ↔ Image (extended 17 rows) (IsOnVisible visible) w)
+    → ((w : List ℕ) → IsCombination 34 (Contains wide) w ↔ Image (extended 17 rows) (IsRowOn 17 visible) w)
     → ((a : List ℕ) → IsCombination 17 (Contains basis) a ↔ Image (λ w. drop 17 w) (Behind 17 (IsCombination 34 (Contains wide))) a)
     → SameModule 17 (Contains reduced) (Contains basis)
     → (a : List ℕ) → IsCombination 17 (Contains reduced) a ↔ Annihilates visible (IsCombination 17 (Contains source)) a
 annihilates_reduced visible source rows wide basis reduced is b first second same a =
-    let on_source = subst (λ (x : List (List ℕ)). (w : List ℕ) → IsCombination 34 (Contains wide) w ↔ Image (extended 17 x) (IsOnVisible visible) w) is first in
+    let on_source = subst (λ (x : List (List ℕ)). (w : List ℕ) → IsCombination 34 (Contains wide) w ↔ Image (extended 17 x) (IsRowOn 17 visible) w) is first in
     let all = annihilates_behind visible source wide basis (rows_within 17 source b) (basis_rows 17 source b) on_source second a in
     (λ m. all.0 (same.there a m), λ n. same.back a (all.1 n))
 

@@ -8,7 +8,8 @@ use Rattle.word_rows.specs.Rows.{words_of, dot_sum, dot, plus, lead, IsRow}
 use Rattle.word_rows.proofs.Laws.{dot-plus, dot_sum-unit, get_or_before_lead, lead-after}
 use Rattle.row_modules.specs.Maps.{IsLinear}
 use Rattle.row_modules.proofs.Laws.{first_or_later, nothing_contained, contains_first, contains_later}
-use Rattle.lead_basis.specs.Products.{unit, products, extended}
+use Rattle.word_rows.specs.Rows.{unit}
+use Rattle.lead_basis.specs.Products.{products, extended}
 use Rattle.lead_basis.proofs.Positions.{index_of_word}
 
 length-products : (m : ℕ) (rows : List (List ℕ)) (a : List ℕ) → length (products m rows a) ≡ m

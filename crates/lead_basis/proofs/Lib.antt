@@ -15,8 +15,8 @@ pub mod Uniqueness
 pub mod Reducing
 pub mod Growing
 pub mod Lengths
+pub mod Included
 pub mod Extending
-pub mod Visible
 pub mod Trailing
 pub mod Units
 pub mod Tails

@@ -6,7 +6,7 @@ use Rattle.std.proofs.lemmas.List.Elements.{All-nil, All-cons, All-weaker}
 use Rattle.word_rows.specs.Rows.{lead, IsRow}
 use Rattle.row_modules.specs.Modules.{none}
 use Rattle.row_modules.specs.Bases.{Leads, IsLeadingBasis}
-use Rattle.lead_basis.specs.Inserts.{AddsFrom, IsReached, HasLead}
+use Rattle.lead_basis.specs.Inserts.{AddsFrom, HasPassed, HasLead}
 use Rattle.lead_basis.proofs.Between.{between_none}
 use Rattle.lead_basis.proofs.Passing.{takes_nothing}
 use Rattle.lead_basis.proofs.Places.{basis_after, adds_from_passed}
@@ -29,7 +29,7 @@ basis_later n (suc gap) from at rows e within b = basis_later n gap (suc from) a
 pub basis_reached : (n from at : ℕ) (rows : List (List ℕ)) → from ≤ at → at ≤ length rows → IsLeadingBasis n (drop from rows) → IsLeadingBasis n (drop at rows)
 basis_reached n from at rows start = basis_later n (at - from) from at rows (omega arith)
 
-pub adds_from_reached : {E : Type 0} (n from at position : ℕ) (old : List (List ℕ)) (row : List ℕ) (new : List (List ℕ)) (result : Result Bool E) (before after : ℕ) → IsReached old from position at → position ≡ lead row → IsLeadingBasis n (drop from old) → IsRow n row → AddsFrom n at old row new result before after → AddsFrom n from old row new result before after
+pub adds_from_reached : {E : Type 0} (n from at position : ℕ) (old : List (List ℕ)) (row : List ℕ) (new : List (List ℕ)) (result : Result Bool E) (before after : ℕ) → HasPassed old from position at → position ≡ lead row → IsLeadingBasis n (drop from old) → IsRow n row → AddsFrom n at old row new result before after → AddsFrom n from old row new result before after
 adds_from_reached n from at position old row new result before after r is_lead basis row_is a =
     let start = r.start in
     adds_from_skipped n (at - from) from at old row new result before after (omega arith) r.end basis row_is (subst (λ (k : ℕ). AllWithin (λ r. lead r < k) old from at) is_lead r.passed) a

@@ -14,7 +14,7 @@
 --       bounded            at every answer it rose by at most the gain in length
 --   AddsFrom n from old row new result before after
 --       the same of the rows from place `from` on, and the earlier ones stayed
---   IsReached rows from position at     the rows from `from` up to `at` have leads before this position
+--   HasPassed rows from position at     the rows from `from` up to `at` have leads before this position
 --   HasLead rows from position at       such a place, where a row with this lead stands
 --   LacksLead rows from position at     such a place, from which on all leads are after the position
 use Rattle.std.specs.Prelude.{◌≡◌, ℕ, ◌+◌, ◌<◌, ◌≤◌, ◌↔◌, Bool, IsTrue, IsFalse, List, ◌∷◌, length, take, drop, All, HoldsAt, Contains, Result, IfOk, OnOk, OnErr}
@@ -43,16 +43,16 @@ pub record AddsFrom {E : Type 0} (n from : ℕ) (old : List (List ℕ)) (row : L
   pub front : take from new ≡ take from old
   pub adds : Adds n (drop from old) row (drop from new) result before after
 
-pub record IsReached (rows : List (List ℕ)) (from position at : ℕ) : Type 0 where
+pub record HasPassed (rows : List (List ℕ)) (from position at : ℕ) : Type 0 where
   pub start : from ≤ at
   pub end : at ≤ length rows
   pub passed : AllWithin (λ r. lead r < position) rows from at
 
 pub record HasLead (rows : List (List ℕ)) (from position at : ℕ) : Type 0 where
-  pub reached : IsReached rows from position at
+  pub reached : HasPassed rows from position at
   pub below : at < length rows
   pub here : HoldsAt (λ r. lead r ≡ position) rows at
 
 pub record LacksLead (rows : List (List ℕ)) (from position at : ℕ) : Type 0 where
-  pub reached : IsReached rows from position at
+  pub reached : HasPassed rows from position at
   pub later : All (λ r. position < lead r) (drop at rows)

@@ -1,14 +1,10 @@
 -- Rows behind their products: forms and their values in one row.
 --
---   unit n i               the row of n zeros with 1 at position i
 --   products m rows a      a . r for each r of the rows, and zeros after them, m words in all
 --   extended m rows a      those m words, and then a
 --   Behind m P w           w is a member of P that is 0 at its first m positions
-use Rattle.std.specs.Prelude.{ℕ, zero, suc, ◌≤◌, List, [], ◌∷◌, ◌++◌, replicate, slice_set}
+use Rattle.std.specs.Prelude.{ℕ, zero, suc, ◌≤◌, List, [], ◌∷◌, ◌++◌}
 use Rattle.word_rows.specs.Rows.{dot, lead}
-
-abbrev pub unit : ℕ → ℕ → List ℕ
-unit n i = slice_set (replicate n 0) i 1
 
 unfoldable pub products : ℕ → List (List ℕ) → List ℕ → List ℕ
 products zero rows a = []

@@ -5,12 +5,14 @@
 //! the products generate all rows whose products are 0.
 
 ghost use Rattle.std.specs.Prelude.{◌≡◌, ◌<◌, ◌≤◌, ◌↔◌, ℕ, List, length, drop, Contains, IsTrue, IfOk};
-ghost use Rattle.word_rows.specs.Rows.{lead};
+ghost use Rattle.word_rows.specs.Rows.{lead, unit};
 ghost use Rattle.row_modules.specs.Bases.{IsReduced};
 ghost use Rattle.row_modules.specs.Maps.{Image};
+ghost use Rattle.row_modules.specs.Forms.{Annihilates};
 ghost use Rattle.row_modules.specs.Modules.{IsCombination, Generates};
-ghost use Rattle.lead_basis.specs.Annihilators.{Annihilates, GeneratorsTell, IsOnVisible, IsVisible};
-ghost use Rattle.lead_basis.specs.Products.{Behind, extended, unit};
+ghost use Rattle.row_modules.specs.Positions.{has, IsRowOn};
+ghost use Rattle.lead_basis.specs.Annihilators.{GeneratorsTell};
+ghost use Rattle.lead_basis.specs.Products.{Behind, extended};
 
 use crate::{Basis, Memory, Steps};
 use row_modules::RowSet;
@@ -62,7 +64,7 @@ fn extended_basis<L: Ledger>(
     steps: &mut Steps<L>,
 ) -> Result<Basis<34>, Memory>
     requires { length rows.now ≤ 17 }
-    ensures { IfOk result (λ wide. (w : List ℕ) → IsCombination 34 (Contains wide) w ↔ Image (extended 17 rows.now) (IsOnVisible visible) w) }
+    ensures { IfOk result (λ wide. (w : List ℕ) → IsCombination 34 (Contains wide) w ↔ Image (extended 17 rows.now) (IsRowOn 17 visible) w) }
 {
     let mut wide = Basis::<34>::new(alloc);
     for position in 0..17usize {
@@ -76,9 +78,9 @@ fn extended_basis<L: Ledger>(
 /// Whether a position is visible.
 fn is_visible(visible: u32, position: usize) -> bool
     requires { position < 32 }
-    ensures { IsTrue result ↔ IsVisible visible position }
+    ensures { result ≡ has visible position }
 {
-    visible & (1 << position) != 0
+    (visible >> position) & 1 == 1
 }
 
 /// The unit row of a position, behind its products with these rows.

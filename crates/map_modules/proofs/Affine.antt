@@ -3,7 +3,7 @@ use Rattle.std.proofs.Common.{◌≡◌, ℕ, ◌*◌, ◌<◌, List, slice_inde
 use Rattle.std.proofs.lemmas.Bool.{ne_eqb}
 use Rattle.word_rows.specs.Words.{word}
 use Rattle.word_rows.specs.Rows.{IsState}
-use Rattle.map_modules.specs.Positions.{has}
+use Rattle.row_modules.specs.Positions.{has}
 use Rattle.map_modules.specs.Matrices.{entry, matrix, sum_below, identity, product, apply, after_affine, extension, IsAffine}
 use Rattle.map_modules.proofs.Sums.{word-mul, sum_below_same, sum_below_pick}
 use Rattle.map_modules.proofs.Entries.{entry-matrix, get_or-vector, IsRow-vector}

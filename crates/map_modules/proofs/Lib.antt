@@ -5,3 +5,5 @@ pub mod Conditions
 pub mod Products
 pub mod Affine
 pub mod Keeping
+pub mod Outside
+pub mod Lemmas

@@ -1,6 +1,5 @@
 -- The laws of matrices. Each holds for all matrices, rows, words and sets of positions.
 --
---   IsAdditive n f         f commutes with adding a multiple, at rows of n words
 --   ProductsAssociate      a product of three is one, however it is bracketed
 --   IdentityIsNeutral      the identity of width 16 changes no matrix, before it or after it, and no row
 --   ApplyOfProduct         to apply a product is to apply twice
@@ -15,10 +14,8 @@
 --   KeepingLeavesWords     an affine map keeps a position exactly where it leaves the word there as it was, in every state
 use Rattle.std.specs.Prelude.{◌≡◌, ℕ, ◌<◌, ◌↔◌, List, replicate, slice_index}
 use Rattle.word_rows.specs.Rows.{words_of, plus, IsRow, IsState}
+use Rattle.row_modules.specs.Maps.{IsLinear, IsBilinear}
 use Rattle.map_modules.specs.Matrices.{identity, product, apply, after_affine, extension, linear_extension, IsAffine, Keeps}
-
-abbrev pub IsAdditive : ℕ → (List ℕ → List ℕ) → Type 0
-IsAdditive n f = (c : ℕ) (v w : List ℕ) → IsRow n v → IsRow n w → f (words_of (plus c v w)) ≡ words_of (plus c (f v) (f w))
 
 abbrev pub ProductsAssociate : Type 0
 ProductsAssociate = (a b c : List ℕ) → product a (product b c) ≡ product (product a b) c
@@ -36,16 +33,16 @@ AffineIsProduct =
     (m row : List ℕ) (i : ℕ) → after_affine m i row ≡ product (after_affine (identity 16) i row) m
 
 abbrev pub ProductIsLinear : Type 0
-ProductIsLinear = (m : List ℕ) → IsAdditive 289 (λ a. product a m) × IsAdditive 289 (product m)
+ProductIsLinear = IsBilinear 289 289 289 product
 
 abbrev pub ApplyIsLinear : Type 0
-ApplyIsLinear = (m v : List ℕ) → IsAdditive 289 (λ a. apply a v) × IsAdditive 17 (apply m)
+ApplyIsLinear = IsBilinear 289 17 17 apply
 
 abbrev pub AfterAffineIsLinear : Type 0
-AfterAffineIsLinear = (i : ℕ) (row : List ℕ) → IsAdditive 289 (λ m. after_affine m i row)
+AfterAffineIsLinear = (i : ℕ) (row : List ℕ) → IsLinear 289 289 (λ m. after_affine m i row)
 
 abbrev pub ExtensionIsLinear : Type 0
-ExtensionIsLinear = (registers slots : ℕ) → IsAdditive 289 (linear_extension registers slots)
+ExtensionIsLinear = (registers slots : ℕ) → IsLinear 289 289 (linear_extension registers slots)
 
 pub record AffineMapsCompose : Type 0 where
   pub identities : (width : ℕ) → IsAffine (identity width)

@@ -10,6 +10,7 @@
 --   apply m v                             what m makes of the row v
 --   after_affine m i row                  m with row times m as its row i: the map m, and then position i becomes row . state
 --   IsAffine m                            the last row of m is 0 but for 1 at column 16
+--   IsMatrixOn rows columns m             m is a matrix that is 0 outside these sets of rows and of columns
 --   Keeps m r                             row r of m is m's word at (16, 16) at column r, and 0 elsewhere
 --
 -- This project's own: the map of a callee as its caller sees it. The caller's slots are memory of the caller's activation,
@@ -18,10 +19,11 @@
 --   extension registers slots m           the rows of m at the registers and at 16; the slots stay; else 0
 --   linear_extension registers slots m    the same, but the slots stay times m's word at (16, 16), so that it is linear in m
 --   with_slots one registers slots m      both of them: the slots stay times one
-use Rattle.std.specs.Prelude.{◌≡◌, ℕ, zero, suc, ◌+◌, ◌*◌, ◌/◌, ◌%◌, ◌<◌, List, map, slice_index, if◌then◌else◌, ◌==◌, ◌&&◌, ◌||◌, nat_lt}
+use Rattle.std.specs.Prelude.{◌≡◌, ℕ, zero, suc, ◌+◌, ◌*◌, ◌/◌, ◌%◌, ◌<◌, List, map, slice_index, false, if◌then◌else◌, ◌==◌, ◌&&◌, ◌||◌, nat_lt}
 use Rattle.std.specs.List.{range_with_len}
 use Rattle.word_rows.specs.Words.{word}
-use Rattle.map_modules.specs.Positions.{has}
+use Rattle.word_rows.specs.Rows.{IsRow}
+use Rattle.row_modules.specs.Positions.{has}
 
 abbrev pub entry : List ℕ → ℕ → ℕ → ℕ
 entry m i j = slice_index m (17 * i + j)
@@ -50,6 +52,11 @@ after_affine m i row = matrix (λ k j. if k == i then sum_below 17 (λ l. slice_
 
 abbrev pub IsAffine : List ℕ → Type 0
 IsAffine m = (j : ℕ) → j < 17 → entry m 16 j ≡ (if j == 16 then 1 else 0)
+
+pub record IsMatrixOn (rows columns : ℕ) (m : List ℕ) : Type 0 where
+  pub row : IsRow 289 m
+  pub in_rows : (i j : ℕ) → i < 17 → j < 17 → has rows i ≡ false → entry m i j ≡ 0
+  pub in_columns : (i j : ℕ) → i < 17 → j < 17 → has columns j ≡ false → entry m i j ≡ 0
 
 abbrev pub Keeps : List ℕ → ℕ → Type 0
 Keeps m r = (j : ℕ) → j < 17 → entry m r j ≡ (if j == r then entry m 16 16 else 0)

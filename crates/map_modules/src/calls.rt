@@ -1,7 +1,7 @@
 //! Calls: the map of a callee as its caller sees it, and the test that a map leaves a position as it was.
 
 ghost use Rattle.std.specs.Prelude.{◌≡◌, ◌<◌, ◌↔◌, IsTrue, bit_and};
-ghost use Rattle.map_modules.specs.Positions.{has};
+ghost use Rattle.row_modules.specs.Positions.{has};
 ghost use Rattle.map_modules.specs.Matrices.{entry, extension, linear_extension, Keeps};
 
 use crate::Mat;

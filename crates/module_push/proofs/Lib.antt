@@ -1,7 +1,6 @@
 pub mod Maps
-pub mod Unions
-mod Unknowns
-mod Pushes
-mod Starting
-pub mod Lengths
-mod Matrices
+pub mod Unknowns
+pub mod Pushes
+pub mod Starting
+pub mod Matrices
+pub mod Lemmas

@@ -5,34 +5,13 @@ use Rattle.std.proofs.lemmas.List.{length-set}
 use Rattle.std.proofs.lemmas.Nat.{mul-mod_second}
 use Rattle.word_rows.specs.Words.{word}
 use Rattle.word_rows.specs.Rows.{words_of, IsRow, plus, dot, dot_sum}
-use Rattle.word_rows.proofs.Laws.{get_or-wrapped_plus, word-plus_first, word-plus_second}
+use Rattle.word_rows.proofs.Laws.{get_or-wrapped_plus, word-plus_first, word-plus_second, IsRow-set, plus-set}
 use Rattle.row_modules.specs.Modules.{AreRows, IsCombination, IsWithin, SameModule}
 use Rattle.row_modules.specs.Maps.{IsLinear}
 use Rattle.row_modules.proofs.Laws.{combinations, combination_is_row, generator, mapped_into, spans_more, within_from_generators, dot_at_sum}
 use Rattle.affine_prog.specs.declared.Assign.{Assign}
 use Rattle.affine_prog.specs.declared.Assign.TheVariants.{Affine, Any}
 use Rattle.module_push.specs.Images.{IsImage, Images}
-
--- a row with a word set
-words_of-set : (v : List ℕ) (i x : ℕ) → words_of (set v i (word x)) ≡ set (words_of v) i (word x)
-words_of-set [] i x = refl
-words_of-set (y ∷ v) zero x = ap (λ z. z ∷ words_of v) (mod-mod x (2 ^ 64))
-words_of-set (y ∷ v) (suc i) x = ap (λ zs. word y ∷ zs) (words_of-set v i x)
-
-pub IsRow-set : (n i x : ℕ) (v : List ℕ) → IsRow n v → IsRow n (set v i (word x))
-IsRow-set n i x v r = record {
-  width = length-set v i (word x) ∙ r.width;
-  words = words_of-set v i x ∙ ap (λ xs. set xs i (word x)) r.words;
-}
-
--- words set in both parts of a sum
-pub plus-set : (c i x y : ℕ) (v w : List ℕ) → length v ≡ length w
-    → set (words_of (plus c v w)) i (word (x + c * y)) ≡ words_of (plus c (set v i x) (set w i y))
-plus-set c i x y [] [] e = refl
-plus-set c i x y [] (b ∷ w) e = absurd (omega arith)
-plus-set c i x y (a ∷ v) [] e = absurd (omega arith)
-plus-set c zero x y (a ∷ v) (b ∷ w) e = refl
-plus-set c (suc i) x y (a ∷ v) (b ∷ w) e = ap (λ zs. word (a + c * b) ∷ zs) (plus-set c i x y v w (omega arith))
 
 -- an affine assignment, and an unknown one whose word is chosen, are linear maps
 affine_is_linear : (i : ℕ) (form : List ℕ) → IsLinear 17 17 (λ v. set v i (dot form v))

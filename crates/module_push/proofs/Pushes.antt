@@ -3,15 +3,14 @@ use Rattle.std.proofs.Common.{◌≡◌, ℕ, ◌+◌, ◌<◌, ◌≤◌, inl, 
 use Rattle.std.proofs.lemmas.List.{take_more, take-append-drop}
 use Rattle.std.proofs.lemmas.List.Elements.{Contains-get_or, Contains-push, Contains-push_cases, Contains-append_left}
 use Rattle.word_rows.specs.Rows.{dot}
-use Rattle.row_modules.specs.Modules.{AreRows, IsCombination, IsWithin, SameModule}
-use Rattle.row_modules.proofs.Laws.{nothing_contained, spans_more}
+use Rattle.row_modules.specs.Modules.{AreRows, Either, IsCombination, IsWithin, SameModule}
+use Rattle.row_modules.proofs.Laws.{nothing_contained, spans_more, same_with, same_members, either_same, same_first}
 use Rattle.row_modules.specs.Bases.{IsLeadingBasis, basis_length}
 use Rattle.affine_prog.specs.declared.Assign.{Assign}
 use Rattle.affine_prog.specs.declared.Assign.TheVariants.{Affine}
 use Rattle.module_push.specs.Images.{IsImage, Images, IsBasisOf, OrImage}
-use Rattle.module_push.proofs.Lengths.{length_within}
+use Rattle.lead_basis.proofs.Laws.{length_within}
 use Rattle.module_push.proofs.Maps.{image_is_row, images_rows}
-use Rattle.module_push.proofs.Unions.{Either, same_with, same_members, either_same, same_first}
 
 contains_from_take : (rows : List (List ℕ)) (i : ℕ) (w : List ℕ) → Contains (take i rows) w → Contains rows w
 contains_from_take rows i w h =

@@ -2,17 +2,16 @@
 use Rattle.std.proofs.Common.{◌≡◌, ℕ, ◌+◌, ◌*◌, inl, inr, List, [], ◌∷◌, replicate, set, get_or, Contains, refl, ap, sym, subst, ◌∙◌, arith}
 use Rattle.word_rows.specs.Words.{word}
 use Rattle.word_rows.specs.Rows.{words_of, IsRow, plus}
-use Rattle.word_rows.proofs.Laws.{get_or-words_of, IsRow-zeros}
-use Rattle.row_modules.specs.Modules.{AreRows, IsWithin, SameModule}
+use Rattle.word_rows.proofs.Laws.{get_or-words_of, IsRow-zeros, IsRow-set, plus-set}
+use Rattle.row_modules.specs.Modules.{AreRows, Either, IsWithin, SameModule}
 use Rattle.row_modules.specs.Choices.{IsChoice}
-use Rattle.row_modules.proofs.Laws.{plus_zeros, first_or_later, contains_first, contains_later, nothing_contained, rows_with, spans_more, choices_span}
+use Rattle.row_modules.proofs.Laws.{plus_zeros, first_or_later, contains_first, contains_later, nothing_contained, rows_with, spans_more, choices_span, same_with, same_members, either_same, same_first}
 use Rattle.row_modules.specs.Bases.{IsLeadingBasis}
 use Rattle.lead_basis.proofs.Laws.{basis_rows}
 use Rattle.affine_prog.specs.declared.Assign.{Assign}
 use Rattle.affine_prog.specs.declared.Assign.TheVariants.{Any}
 use Rattle.module_push.specs.Images.{IsImage, OrImage}
-use Rattle.module_push.proofs.Maps.{IsRow-set, plus-set, image_is_row}
-use Rattle.module_push.proofs.Unions.{Either, same_with, same_members, either_same, same_first}
+use Rattle.module_push.proofs.Maps.{image_is_row}
 
 -- the images of an unknown assignment: the row with 0 at the position, and multiples of its word at 16 there
 module _ (i : ℕ) (v : List ℕ) (row : IsRow 17 v) where

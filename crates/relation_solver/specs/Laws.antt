@@ -6,7 +6,7 @@
 use Rattle.std.specs.Prelude.{◌≢◌, ℕ, ◌↔◌, List, Contains}
 use Rattle.word_rows.specs.Rows.{lead, IsState}
 use Rattle.row_modules.specs.Modules.{IsCombination, Generates, SameModule}
-use Rattle.lead_basis.specs.Annihilators.{Annihilates}
+use Rattle.row_modules.specs.Forms.{Annihilates}
 use Rattle.relation_solver.specs.Zero.{HasZeroAlone}
 
 pub record FollowStates (P : List ℕ → Type 0) : Type 0 where

@@ -1,7 +1,7 @@
 //! Relations between two registers, at positions 0 and 1, and the constant.
 
-ghost use Rattle.std.specs.Prelude.{◌≡◌, ◌<◌};
-ghost use Rattle.lead_basis.specs.Annihilators.{IsVisible};
+ghost use Rattle.std.specs.Prelude.{◌≡◌, IsTrue, ◌<◌};
+ghost use Rattle.row_modules.specs.Positions.{has};
 
 use crate::{Relations, relations_follow_states, solve};
 use lead_basis::{Basis, Memory, Steps};
@@ -27,7 +27,7 @@ fn gives<L: Ledger>(
     module: &[[u64; 3]],
     expected: &[[u64; 3]],
 ) -> Result<bool, Memory>
-    requires { IsVisible visible 16 }
+    requires { IsTrue (has visible 16) }
 {
     let mut basis = Basis::<17>::new(alloc);
     for words in module {

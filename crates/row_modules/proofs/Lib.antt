@@ -3,4 +3,7 @@ pub mod Images
 pub mod Lists
 pub mod Zeros
 pub mod Unknowns
+pub mod Unions
+pub mod Positions
+pub mod Used
 pub mod Laws

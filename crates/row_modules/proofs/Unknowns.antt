@@ -19,6 +19,9 @@ sum_less_first (v ∷ vs) (w ∷ ws) e =
     let h = sum_less_first vs ws (omega arith) in
     let z : word ((v + 1 * w) + (2 ^ 64 - 1) * v) ≡ word w = ap word s ∙ add-mul-mod_self_left w (2 ^ 64) v in cc
 
+pub less_first : (n : ℕ) (v w : List ℕ) → IsRow n v → IsRow n w → words_of (plus (2 ^ 64 - 1) (words_of (plus 1 v w)) v) ≡ w
+less_first n v w a b = words_of-plus_first (2 ^ 64 - 1) (plus 1 v w) v ∙ sum_less_first v w (a.width ∙ sym b.width) ∙ b.words
+
 module _ (n : ℕ) (start : List ℕ) (first : IsRow n start) where
   -- the choice of zeros is the start itself
   start_is_choice : (steps : List (List ℕ)) → AreRows n (Contains steps) → IsChoice start steps start
@@ -37,10 +40,10 @@ module _ (n : ℕ) (start : List ℕ) (first : IsRow n start) where
 
   step_in : (S : List ℕ → Type 0) → IsModule n S → (step : List ℕ) → S start → S (words_of (plus 1 start step)) → IsRow n step → S step
   step_in S m step s t row =
-      let e = words_of-plus_first (2 ^ 64 - 1) (plus 1 start step) start ∙ sum_less_first start step (first.width ∙ sym row.width) ∙ row.words in
+      let e = less_first n start step first row in
       rw (← e) (m.sum (2 ^ 64 - 1) (words_of (plus 1 start step)) start t s)
 
-  choice_row : (steps : List (List ℕ)) → AreRows n (Contains steps) → (v : List ℕ) → IsChoice start steps v → IsRow n v
+  pub choice_row : (steps : List (List ℕ)) → AreRows n (Contains steps) → (v : List ℕ) → IsChoice start steps v → IsRow n v
   choice_row [] rows v e = rw e first
   choice_row (step ∷ steps) rows v (c, u, k, e) =
       rw e (IsRow-plus n c u step (choice_row steps (λ x j. rows x (contains_later step steps x j)) u k) (rows step (contains_first step steps)))

@@ -1,4 +1,5 @@
 pub mod Modules
+pub mod Positions
 pub mod Maps
 pub mod Forms
 pub mod Choices

@@ -1,3 +1,8 @@
+pub mod Wraps
+pub mod Exact
+pub mod Dots
+pub mod Leads
+pub mod Units
 pub mod Laws
 mod ByIndex
 mod Newton

@@ -8,8 +8,9 @@
 --   times c xs      c * xs at each position, whole
 --   lead v          the first position at which v isn't 0, and its length where all are 0
 --   pivot v         the word at the lead
+--   unit n i        the row of n zeros with 1 at position i
 --   IsState v       v is a state: a row of 17 words with 1 at position 16
-use Rattle.std.specs.Prelude.{◌≡◌, ℕ, ◌+◌, ◌*◌, List, [], ◌∷◌, length, map, slice_index, if◌then◌else◌, ◌==◌}
+use Rattle.std.specs.Prelude.{◌≡◌, ℕ, ◌+◌, ◌*◌, List, [], ◌∷◌, length, map, replicate, slice_index, slice_set, if◌then◌else◌, ◌==◌}
 use Rattle.std.specs.Simd.Lanes.{zip2}
 use Rattle.word_rows.specs.Words.{word}
 
@@ -40,6 +41,9 @@ lead (x ∷ xs) = if x == 0 then lead xs + 1 else 0
 
 abbrev pub pivot : List ℕ → ℕ
 pivot v = slice_index v (lead v)
+
+abbrev pub unit : ℕ → ℕ → List ℕ
+unit n i = slice_set (replicate n 0) i 1
 
 pub record IsState (v : List ℕ) : Type 0 where
   pub row : IsRow 17 v

@@ -1,6 +1,7 @@
 use Rattle.std.proofs.Common.{◌≡◌, ◌+◌, ℕ, List, take, get_or, set, ap, sym, ◌∙◌, arith, add-one}
 use Rattle.word_rows.specs.Rows.{dot}
-use Rattle.lead_basis.specs.Products.{extended, unit}
+use Rattle.word_rows.specs.Rows.{unit}
+use Rattle.lead_basis.specs.Products.{extended}
 use Rattle.lead_basis.proofs.Extending.{extended_none, extended_more, dot_unit}
 use Rattle.lead_basis.proofs.annihilator.extended_unit.Goals as goal
 

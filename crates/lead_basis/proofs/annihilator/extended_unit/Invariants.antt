@@ -1,5 +1,6 @@
 use Rattle.std.proofs.Common.{◌≡◌, take}
-use Rattle.lead_basis.specs.Products.{extended, unit}
+use Rattle.word_rows.specs.Rows.{unit}
+use Rattle.lead_basis.specs.Products.{extended}
 use Rattle.lead_basis.proofs.annihilator.extended_unit.Given as goal
 
 abbrev pub invariant-loop-i : goal.invariant-loop-i

@@ -2,7 +2,7 @@ use Rattle.std.proofs.Common.{Contains, take, ◌+◌, arith}
 use Rattle.lead_basis.proofs.Laws.{basis_rows}
 use Rattle.module_push.specs.Images.{Images, OrImage}
 use Rattle.module_push.proofs.Pushes.{nothing_pushed, more_spanned, no_longer}
-use Rattle.module_push.proofs.Unions.{same_with}
+use Rattle.row_modules.proofs.Laws.{same_with}
 use Rattle.module_push.proofs.push.push_assign.Goals as goal
 
 pub loop-row-init : goal.loop-row-init

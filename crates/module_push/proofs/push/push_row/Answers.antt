@@ -2,7 +2,7 @@ use Rattle.std.proofs.Common.{◌∙◌, set, ◌∷◌, ap₂, arith, Contains}
 use Rattle.module_push.specs.Images.{OrImage}
 use Rattle.module_push.proofs.Pushes.{affine_spanned}
 use Rattle.module_push.proofs.Unknowns.{unknown_spanned, zero_within}
-use Rattle.module_push.proofs.Unions.{same_with}
+use Rattle.row_modules.proofs.Laws.{same_with}
 use Rattle.module_push.proofs.push.push_row.Goals as goal
 
 pub returns-in_ok-insert-in-Affine-clause-images : goal.returns-in_ok-insert-in-Affine-clause-images

@@ -8,7 +8,12 @@ use Rattle.word_rows.proofs.Laws.{get_or_before_lead}
 use Rattle.row_modules.specs.Modules.{IsCombination, IsWithin}
 use Rattle.row_modules.specs.Bases.{IsLeadingBasis, basis_length}
 use Rattle.row_modules.proofs.Laws.{generator, contains_first, first_or_later}
-use Rattle.lead_basis.proofs.Laws.{zero_at, zero_to, basis_rows, rest_zero, pivot_divides, drop_first, empty_span, no_rows, later_within, exponent}
+use Rattle.lead_basis.proofs.Powers.{exponent}
+use Rattle.lead_basis.proofs.Positions.{zero_at, zero_to}
+use Rattle.lead_basis.proofs.Leading.{basis_rows, rest_zero, pivot_divides, drop_first}
+use Rattle.lead_basis.proofs.Remains.{empty_span}
+use Rattle.lead_basis.proofs.Between.{later_within}
+use Rattle.lead_basis.proofs.Uniqueness.{no_rows}
 
 -- a member is 0 before the first lead
 zero_before : (n : ℕ) (x : List ℕ) (xs : List (List ℕ)) → IsLeadingBasis n (x ∷ xs) → (v : List ℕ) → IsCombination n (Contains (x ∷ xs)) v → (k : ℕ) → k < lead x → slice_index v k ≡ 0

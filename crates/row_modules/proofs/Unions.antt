@@ -1,10 +1,8 @@
 -- Modules of unions of sets.
 use Rattle.std.proofs.Common.{◌≡◌, ℕ, ◌⊎◌, inl, inr, List, ◌∷◌, Contains}
-use Rattle.row_modules.specs.Modules.{AreRows, IsWithin, SameModule}
-use Rattle.row_modules.proofs.Laws.{generator, contains_first, contains_later, first_or_later, spans_more, within_from_generators}
-
-abbrev pub Either : (List ℕ → Type 0) → (List ℕ → Type 0) → List ℕ → Type 0
-Either P Q v = P v ⊎ Q v
+use Rattle.row_modules.specs.Modules.{AreRows, Either, IsWithin, SameModule}
+use Rattle.row_modules.proofs.Closure.{generator}
+use Rattle.row_modules.proofs.Lists.{contains_first, contains_later, first_or_later, spans_more, within_from_generators}
 
 pub either_rows : (n : ℕ) (P Q : List ℕ → Type 0) → AreRows n P → AreRows n Q → AreRows n (Either P Q)
 either_rows n P Q first second v h = elim h [ inl p ↦ first v p | inr q ↦ second v q ]
