@@ -1,2 +1,3 @@
 pub mod NamedFiles
 pub mod Gained
+pub mod CountedFiles

@@ -5,12 +5,25 @@ use crate::errors::Failed;
 use crate::files::Files;
 use std::alloc::Global;
 use std::fs::File;
-use std::io::Read;
+use std::io::{ErrorKind, Read};
 use std::marker::Model;
 use std::{io, rt};
 
 /// The bytes that are read at once on the way to a place.
 const STEP: u64 = 4096;
+
+/// One read into `into`, tried again where the system interrupted it.
+pub(crate) fn read_once<F: Read>(file: &mut F, into: &mut [u8]) -> io::Result<usize>
+    ensures { IfOk result (λ n. n ≤ length into.new) }
+{
+    for _ in 0..u64::MAX {
+        match file.read(into) {
+            Err(error) if error.kind() == ErrorKind::Interrupted => {}
+            other => return other,
+        }
+    }
+    Err(io::Error::from(ErrorKind::Interrupted))
+}
 
 /// A file that is open, with its name and the place where it stands.
 #[derive(Drop)]
@@ -28,13 +41,13 @@ impl<F: Read> Open<F> {
         let mut passed = [0u8; STEP as usize];
         while self.at < at {
             let most = STEP.min(at - self.at) as usize;
-            let n = self.file.read(&mut passed[..most])?;
+            let n = read_once(&mut self.file, &mut passed[..most])?;
             if n == 0 {
                 return Ok(0);
             }
             self.at += n as u64;
         }
-        let n = self.file.read(into)?;
+        let n = read_once(&mut self.file, into)?;
         self.at = self.at.saturating_add(n as u64);
         Ok(n)
     }

@@ -4,7 +4,7 @@
 #[derive(Clone, Copy, Debug, PartialEq, Eq)]
 pub struct Failed;
 
-/// Want of memory.
+/// Out of memory.
 #[derive(Clone, Copy, Debug, PartialEq, Eq)]
 pub struct Memory;
 
@@ -15,7 +15,7 @@ pub enum ReadError {
     Failed,
     /// The file has more bytes than this limit.
     TooLong(u64),
-    /// Want of memory.
+    /// Out of memory.
     Memory,
 }
 

@@ -25,7 +25,8 @@ pub trait Files {
         ensures contents_stay { (other : List ℕ) →
             contents self.new other ≡ contents self.old other }
 
-        // A failure is counted at its name, and nothing else is counted.
+        // A failure is counted at its name. It counts at no other name whose contents are told, and a
+        // read that doesn't fail counts nothing.
         ensures cause { OnErr result
             (HasRisen (faults self.old name.now) (faults self.new name.now)) }
         ensures never_fall { (other : List ℕ) →

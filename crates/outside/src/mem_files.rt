@@ -24,6 +24,7 @@ pub struct MemFiles {
 
 impl Files for MemFiles {
     ghost use Rattle.outside.specs.MemFiles.{contents_of, faults_of};
+    ghost use Rattle.outside.specs.Named.{counted_named};
 
     ghost contents = { contents_of };
 
@@ -39,7 +40,10 @@ impl Files for MemFiles {
             (λ c. take n into.new ≡ take n (drop at c))) }
         ensures ok { OnOk result (self.new ≡ record self.old { calls = one_more self.old.calls }) }
 
-        // A failure is counted, and nothing else changes.
+        // A failure is counted once, at its name: where the name is present, in the first file that has it.
+        ensures absent_stay { IsSome (contents_of self.old name.now) → self.new.faults ≡ self.old.faults }
+        ensures files_counted { OnErr result
+            (self.new.files.items ≡ counted_named self.old.files.items name.now) }
         ensures cause { OnErr result
             (faults_of self.new name.now ≡ one_more (faults_of self.old name.now)) }
         ensures never_fall { (other : List ℕ) →

@@ -1,5 +1,5 @@
 //! A sink in memory.
-ghost use Rattle.std.specs.Prelude.{◌≡◌, ◌-◌, ◌<◌, ◌≤◌, ◌⊎◌, ◌↔◌, ◌++◌, [], length, take, min, Contains, IfOk, IsErr, OnOk, OnErr, vec_capacity, vec_len};
+ghost use Rattle.std.specs.Prelude.{◌≡◌, ◌+◌, ◌-◌, ◌<◌, ◌≤◌, ◌⊎◌, ◌↔◌, ◌++◌, [], length, take, min, Contains, IfOk, IsErr, OnOk, OnErr, vec_capacity, vec_len};
 ghost use Rattle.outside.specs.Counts.{NeverFalls, one_more};
 
 use crate::calls::next_fails;
@@ -65,6 +65,7 @@ impl Sink for MemSink {
         ensures some { IfOk result (λ n. 0 < n) }
         ensures gain { IfOk result (λ n.
             self.new.written.items ≡ self.old.written.items ++ take n bytes.now) }
+        ensures room { vec_capacity self.new.written ≡ vec_capacity self.old.written }
         ensures ok_stays { OnOk result (self.new.faults ≡ self.old.faults) }
         ensures err { OnErr result (self.new.written ≡ self.old.written) }
         ensures cause { OnErr result (self.new.faults ≡ one_more self.old.faults) }
@@ -78,7 +79,18 @@ impl Sink for MemSink {
             return Err(Failed);
         }
         let n = bytes.len().min(self.piece).min(room);
-        self.written.extend_from_slice(&bytes[..n]).unwrap();
+        append(&mut self.written, &bytes[..n]);
         Ok(n)
+    }
+}
+
+/// Appends the bytes, for which there is room, in place.
+fn append(written: &mut Vec<u8>, bytes: &[u8])
+    requires { vec_len written.old + length bytes.now ≤ vec_capacity written.old }
+    ensures items { written.new.items ≡ written.old.items ++ bytes.now }
+    ensures room { vec_capacity written.new ≡ vec_capacity written.old }
+{
+    for byte in bytes {
+        written.push_reserved(*byte);
     }
 }

@@ -27,7 +27,8 @@ pub fn read_all<F: Files>(
     ensures contents_stay { (other : List ℕ) →
         F.contents files.new other ≡ F.contents files.old other }
 
-    // A failure is counted at its name, and nothing else is counted.
+    // A failed read is counted at its name. It counts at no other name whose contents are told, and any
+    // other answer counts nothing.
     ensures cause { IsErrOf result ReadError.Failed →
         HasRisen (F.faults files.old name.now) (F.faults files.new name.now) }
     ensures never_fall { (other : List ℕ) →

@@ -25,7 +25,7 @@ pub trait Sink {
         ensures err { OnErr result (written self.new ≡ written self.old) }
         ensures told { IsSome (written self.new) ↔ IsSome (written self.old) }
 
-        // A failure is counted, and nothing else is.
+        // A failure is counted, and a put that doesn't fail counts nothing.
         ensures cause { OnErr result (HasRisen (faults self.old) (faults self.new)) }
         ensures never_falls { NeverFalls (faults self.old) (faults self.new) }
         ensures ok_stays { OnOk result (faults self.new ≡ faults self.old) };

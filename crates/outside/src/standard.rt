@@ -4,7 +4,7 @@ ghost use Rattle.std.specs.Prelude.{◌≡◌, ◌≤◌, ℕ, List, Option, Non
 use crate::errors::Failed;
 use crate::sink::Sink;
 use std::io;
-use std::io::Write;
+use std::io::{ErrorKind, Write};
 use std::marker::Model;
 
 /// Standard output, by a runtime's leave. Clauses see the count of faults.
@@ -29,13 +29,37 @@ impl<R: Print + Drop> StdSink<R> {
     }
 }
 
+/// One write of some of the bytes, tried again where the system interrupted it.
+pub(crate) fn write_once<W: Write>(out: &mut W, bytes: &[u8]) -> io::Result<usize>
+    ensures { IfOk result (λ n. n ≤ length bytes.now) }
+{
+    for _ in 0..u64::MAX {
+        match out.write(bytes) {
+            Err(error) if error.kind() == ErrorKind::Interrupted => {}
+            other => return other,
+        }
+    }
+    Err(io::Error::from(ErrorKind::Interrupted))
+}
+
+/// Flushes, and tries it again where the system interrupted it.
+pub(crate) fn flush_once<W: Write>(out: &mut W) -> io::Result<()> {
+    for _ in 0..u64::MAX {
+        match out.flush() {
+            Err(error) if error.kind() == ErrorKind::Interrupted => {}
+            other => return other,
+        }
+    }
+    Err(io::Error::from(ErrorKind::Interrupted))
+}
+
 /// Writes some of the bytes and flushes.
 fn write_out(rt: &impl Print, bytes: &[u8]) -> io::Result<usize>
     ensures { IfOk result (λ n. n ≤ length bytes.now) }
 {
     let mut out = io::writer(rt);
-    let n = out.write(bytes)?;
-    out.flush()?;
+    let n = write_once(&mut out, bytes)?;
+    flush_once(&mut out)?;
     Ok(n)
 }
 

@@ -1,12 +1,15 @@
-ghost use Rattle.std.specs.Prelude.{◌≡◌, ◌≢◌, ◌≤◌, Err, IsOk};
+ghost use Rattle.std.specs.Prelude.{◌≡◌, ◌≢◌, ◌≤◌, Err, IfOk, IsOk};
 
+use crate::disk::read_once;
+use crate::standard::{flush_once, write_once};
 use crate::{
     CleanFiles, CleanSink, DiskFiles, Files, MemFile, MemFiles, MemSink, ReadError, StdSink,
     WriteError, read_all, write_all,
 };
 use std::alloc::{AllocError, Global};
+use std::io::{ErrorKind, Read, Write};
 use std::test::Fail;
-use std::{env, fs, process};
+use std::{env, fs, io, process};
 
 /// Over files that never fail, no read does.
 fn read_cleanly(alloc: Global, files: &mut CleanFiles, name: &str) -> Result<Vec<u8>, ReadError>
@@ -152,6 +155,104 @@ fn reads_from_disk(rt: HostRuntime) -> Result<(), Fail> {
     let absent = read_all(alloc, &mut files, name, 10_000).err();
     assert_eq!(rt; absent, Some(ReadError::Failed));
     Ok(())
+}
+
+#[test]
+fn reads_each_file_from_its_beginning(rt: HostRuntime) -> Result<(), Fail> {
+    let alloc = rt.alloc();
+    let id = process::id(rt.process());
+    let folder = env::temp_dir(&rt)?;
+    let first = folder.join(alloc, format!(in alloc; "outside-first-{id}")?.as_str())?;
+    let second = folder.join(alloc, format!(in alloc; "outside-second-{id}")?.as_str())?;
+    let first = first.to_str().ok_or("no text")?;
+    let second = second.to_str().ok_or("no text")?;
+    fs::write(&rt, first, b"slot -8")?;
+    fs::write(&rt, second, b"slot -16")?;
+
+    // Two files in turn, the second from the place where the first stands.
+    let mut files = DiskFiles::new(alloc, &rt);
+    let mut bytes = [0u8; 5];
+    assert_eq!(rt; files.read(first, 0, &mut bytes), Ok(5));
+    assert_eq!(rt; files.read(second, 5, &mut bytes), Ok(3));
+    assert_eq!(rt; bytes.get(..3), Some(b"-16".as_slice()));
+    for (name, want) in [(first, b"slot -8".as_slice()), (second, b"slot -16")] {
+        let got = read_all(alloc, &mut files, name, 100)
+            .ok()
+            .ok_or("a fault")?;
+        assert_eq!(rt; got.as_slice(), want);
+    }
+
+    // A file that is replaced while it is open at its beginning.
+    assert_eq!(rt; files.read(first, 0, &mut []), Ok(0));
+    fs::remove_file(&rt, first)?;
+    fs::write(&rt, first, b"slot -24")?;
+    let got = read_all(alloc, &mut files, first, 100)
+        .ok()
+        .ok_or("a fault")?;
+    assert_eq!(rt; got.as_slice(), b"slot -24".as_slice());
+    fs::remove_file(&rt, first)?;
+    fs::remove_file(&rt, second)?;
+    Ok(())
+}
+
+/// A reader and writer whose first calls are interrupted, and the next of another kind.
+#[derive(Drop)]
+struct Interrupted {
+    calls: usize,
+    then: Option<ErrorKind>,
+}
+
+impl Interrupted {
+    fn next(&mut self, length: usize) -> io::Result<usize>
+        ensures { IfOk result (λ n. n ≤ length) }
+    {
+        if self.calls > 0 {
+            self.calls -= 1;
+            return Err(io::Error::from(ErrorKind::Interrupted));
+        }
+        match self.then {
+            Some(kind) => Err(io::Error::from(kind)),
+            None => Ok(length),
+        }
+    }
+}
+
+impl Read for Interrupted {
+    fn read(&mut self, buf: &mut [u8]) -> io::Result<usize> {
+        self.next(buf.len())
+    }
+}
+
+impl Write for Interrupted {
+    fn write(&mut self, buf: &[u8]) -> io::Result<usize> {
+        self.next(buf.len())
+    }
+
+    fn flush(&mut self) -> io::Result<()> {
+        self.next(0)?;
+        Ok(())
+    }
+}
+
+#[test]
+fn tries_again_where_it_was_interrupted(rt: HostRuntime) {
+    for calls in [0, 1, 3] {
+        let mut bytes = [0u8; 4];
+        let mut end = Interrupted { calls, then: None };
+        assert_eq!(rt; read_once(&mut end, &mut bytes).ok(), Some(4));
+        end.calls = calls;
+        assert_eq!(rt; write_once(&mut end, b"row").ok(), Some(3));
+        end.calls = calls;
+        assert!(rt; flush_once(&mut end).is_ok());
+
+        let then = Some(ErrorKind::BrokenPipe);
+        let mut end = Interrupted { calls, then };
+        assert!(rt; read_once(&mut end, &mut bytes).is_err());
+        end.calls = calls;
+        assert!(rt; write_once(&mut end, b"row").is_err());
+        end.calls = calls;
+        assert!(rt; flush_once(&mut end).is_err());
+    }
 }
 
 #[test]

@@ -14,7 +14,7 @@ pub fn write_all<K: Sink>(sink: &mut K, bytes: &[u8]) -> Result<(), WriteError>
     ensures err { OnErr result (GainsPrefix (K.written sink.old) (K.written sink.new) bytes.now) }
     ensures told { IsSome (K.written sink.new) ↔ IsSome (K.written sink.old) }
 
-    // A failure is counted, and nothing else is.
+    // A failed put is counted, and a text that was written whole counts nothing.
     ensures cause { OnErr result (HasRisen (K.faults sink.old) (K.faults sink.new)) }
     ensures never_falls { NeverFalls (K.faults sink.old) (K.faults sink.new) }
     ensures ok_stays { OnOk result (K.faults sink.new ≡ K.faults sink.old) }

@@ -1,12 +1,30 @@
-use Rattle.std.proofs.Common.{◌≡◌, Some, None, position, arith}
+use Rattle.std.proofs.Common.{◌≡◌, Some, None, position, arith, sym}
+use Rattle.std.proofs.lemmas.Bool.{false≢true}
 use Rattle.outside.specs.Named.{is_named}
 use Rattle.outside.proofs.NamedFiles.{absent, present, recounted, counts_one}
+use Rattle.outside.proofs.CountedFiles.{counts_none, counts_first}
 use Rattle.outside.proofs.mem_files.MemFilesFiles.read.Goals as goal
 
 pub returns-in_default-clause-cause : goal.returns-in_default-clause-cause
 returns-in_default-clause-cause c =
     let place : position (is_named c.args.name.now) c.args.self.now.files.items ≡ None = cc in
     rw (absent _ _ place) (grind arith)
+
+pub returns-in_default-clause-absent_stay : goal.returns-in_default-clause-absent_stay
+returns-in_default-clause-absent_stay c =
+    let place : position (is_named c.args.name.now) c.args.self.now.files.items ≡ None = cc in
+    rw (absent _ _ place) (λ some. absurd (false≢true some))
+
+pub returns-in_default-clause-files_counted : goal.returns-in_default-clause-files_counted
+returns-in_default-clause-files_counted c =
+    let place : position (is_named c.args.name.now) c.args.self.now.files.items ≡ None = cc in
+    let files = c.args.self.now.files.items in
+    sym (counts_none files c.args.name.now (absent files _ place))
+
+pub returns-then-failing-clause-files_counted : goal.returns-then-failing-clause-files_counted
+returns-then-failing-clause-files_counted c =
+    let place : position (is_named c.args.name.now) c.args.self.now.files.items ≡ Some c.in-Some.i = cc in
+    counts_first _ _ _ _ _ place c.index_mut.ensures.value c.count_fault.ensures.counted
 
 pub returns-then-failing-clause-contents_stay : goal.returns-then-failing-clause-contents_stay
 returns-then-failing-clause-contents_stay c =
