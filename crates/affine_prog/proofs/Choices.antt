@@ -17,7 +17,7 @@ use Rattle.affine_prog.proofs.Steps.{step_is_linear, step_map-cons, spread, unkn
 use Rattle.affine_prog.proofs.Combined.{combined, combined_is_choice, choice_is_combined, combined-unit}
 
 -- the positions that are assigned are below 16
-abbrev ArePlaced : List Assign → Type 0
+abbrev pub ArePlaced : List Assign → Type 0
 ArePlaced assigns = All (λ a. position_of a < 16) assigns
 
 later : (a : Assign) (rest : List Assign) → ArePlaced (a ∷ rest) → ArePlaced rest
@@ -27,7 +27,7 @@ here : (a : Assign) (rest : List Assign) → ArePlaced (a ∷ rest) → position
 here a rest placed = All-head (λ a. position_of a < 16) a rest placed
 
 -- where the last row is 0, a step doesn't depend on its choice
-step_of_none : (assigns : List Assign) (words n : List ℕ) → ArePlaced assigns → HasNoConstant n → step_map assigns words n ≡ step_map assigns [] n
+pub step_of_none : (assigns : List Assign) (words n : List ℕ) → ArePlaced assigns → HasNoConstant n → step_map assigns words n ≡ step_map assigns [] n
 step_of_none [] words n placed none = refl
 step_of_none (Affine i row ∷ rest) words n placed none =
     step_map-cons n row (matrix_of rest words) i
@@ -40,24 +40,24 @@ step_of_none (Any i ∷ rest) words n placed none =
     ∙ sym (step_map-cons n (constant 0) (matrix_of rest []) i)
 
 -- what one more of each chosen word adds
-abbrev differences_of : List Assign → List ℕ → List (List ℕ)
+abbrev pub differences_of : List Assign → List ℕ → List (List ℕ)
 differences_of [] m = []
 differences_of (Affine i row ∷ rest) m = differences_of rest (after_affine m i row)
 differences_of (Any i ∷ rest) m = step_map rest [] (spread i m) ∷ differences_of rest (after_affine m i (constant 0))
 
-length-differences_of : (assigns : List Assign) (m : List ℕ) → length (differences_of assigns m) ≡ unknown_count assigns
+pub length-differences_of : (assigns : List Assign) (m : List ℕ) → length (differences_of assigns m) ≡ unknown_count assigns
 length-differences_of [] m = refl
 length-differences_of (Affine i row ∷ rest) m = length-differences_of rest (after_affine m i row)
 length-differences_of (Any i ∷ rest) m = omega (arith, length-differences_of rest (after_affine m i (constant 0)))
 
-differences_are_rows : (assigns : List Assign) (m : List ℕ) → All (IsRow 289) (differences_of assigns m)
+pub differences_are_rows : (assigns : List Assign) (m : List ℕ) → All (IsRow 289) (differences_of assigns m)
 differences_are_rows [] m = All-nil (IsRow 289)
 differences_are_rows (Affine i row ∷ rest) m = differences_are_rows rest (after_affine m i row)
 differences_are_rows (Any i ∷ rest) m =
     All-cons (IsRow 289) (step_map rest [] (spread i m)) (differences_of rest (after_affine m i (constant 0))) (IsRow-matrix _) (differences_are_rows rest (after_affine m i (constant 0)))
 
 -- the map under a choice
-step_map-combined : (assigns : List Assign) (words m : List ℕ) → ArePlaced assigns → length words ≡ unknown_count assigns
+pub step_map-combined : (assigns : List Assign) (words m : List ℕ) → ArePlaced assigns → length words ≡ unknown_count assigns
     → step_map assigns words m ≡ combined (step_map assigns [] m) words (differences_of assigns m)
 step_map-combined [] [] m placed long = refl
 step_map-combined [] (w ∷ words) m placed long = refl
@@ -81,11 +81,11 @@ matrix_of-zeros (Any i ∷ rest) (w ∷ words) zeros =
     ap₂ (λ b x. product b (assignment i (constant x))) (matrix_of-zeros rest words (λ k. zeros (suc k))) (zeros 0)
 
 -- the map under zeros, and under one unit
-under_zeros : (assigns : List Assign) (m : List ℕ) → step_map assigns [] m ≡ step_map assigns (zero_choice (unknown_count assigns)) m
+pub under_zeros : (assigns : List Assign) (m : List ℕ) → step_map assigns [] m ≡ step_map assigns (zero_choice (unknown_count assigns)) m
 under_zeros assigns m =
     ap (λ b. product b m) (sym (matrix_of-zeros assigns (zero_choice (unknown_count assigns)) (get_or-zeros (unknown_count assigns))))
 
-under_unit : (assigns : List Assign) (m : List ℕ) (n k : ℕ) → ArePlaced assigns → n ≡ unknown_count assigns → k < n
+pub under_unit : (assigns : List Assign) (m : List ℕ) (n k : ℕ) → ArePlaced assigns → n ≡ unknown_count assigns → k < n
     → step_map assigns (unit n k) m ≡ words_of (plus 1 (step_map assigns [] m) (get_or (differences_of assigns m) k []))
 under_unit assigns m n k placed count within =
     let long : length (unit n k) ≡ n = length-set (replicate n 0) k 1 ∙ length-replicate n 0 in
@@ -103,11 +103,11 @@ module _ (assigns : List Assign) (m : List ℕ) (placed : ArePlaced assigns) whe
   under_words words long =
       step_map-combined assigns words m placed long ∙ ap (λ s. combined s words (differences_of assigns m)) (under_zeros assigns m)
 
-  step_is_choice : (n : List ℕ) → IsStepOf assigns m n → IsChoice start (differences_of assigns m) n
+  pub step_is_choice : (n : List ℕ) → IsStepOf assigns m n → IsChoice start (differences_of assigns m) n
   step_is_choice n (words, choice, is) =
       rw (is, under_words words choice.width) (combined_is_choice start words (differences_of assigns m) (choice.width ∙ sym (length-differences_of assigns m)))
 
-  choice_is_step : (n : List ℕ) → IsChoice start (differences_of assigns m) n → IsStepOf assigns m n
+  pub choice_is_step : (n : List ℕ) → IsChoice start (differences_of assigns m) n → IsStepOf assigns m n
   choice_is_step n c =
       let (words, row, is) = choice_is_combined start (differences_of assigns m) n c in
       let choice = subst (λ k. IsRow k words) (length-differences_of assigns m) row in

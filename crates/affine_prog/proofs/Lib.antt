@@ -10,4 +10,5 @@ pub mod Visible
 pub mod Used
 pub mod Spanned
 pub mod Openings
+pub mod Columns
 pub mod Lemmas

@@ -24,7 +24,7 @@ step_map-cons m row b i = sym (product-product b (assignment i row) m) ∙ ap (p
 abbrev pub spread : ℕ → List ℕ → List ℕ
 spread i m = matrix (λ k j. if k == i then entry m 16 j else 0)
 
-constant_sum : (w j : ℕ) (m : List ℕ) → word (sum_below 17 (λ l. slice_index (constant w) l * entry m l j)) ≡ word (w * entry m 16 j)
+pub constant_sum : (w j : ℕ) (m : List ℕ) → word (sum_below 17 (λ l. slice_index (constant w) l * entry m l j)) ≡ word (w * entry m 16 j)
 constant_sum w j m =
     sum_below_same 17 (λ l. slice_index (constant w) l * entry m l j) (λ l. (if l == 16 then w else 0) * entry m l j)
     (λ l h. word-mul (slice_index (constant w) l) (if l == 16 then w else 0) (entry m l j) (entry m l j) (ap word (get_or-vector _ l h) ∙ word-word _) refl)

@@ -6,6 +6,8 @@
 --                                      differences, one for each unknown; the difference is what 1 for that unknown alone adds
 --   StepsAreLinear                     the map of a step, under one choice, is linear in the map before
 --   StepsAreAffineInChoices            each step is affine in its choice, where the assigned positions are below 16
+--   ChoicesMoveConstants               the matrix of a list depends on its choice in the column of the constant alone, where the
+--                                      assigned positions are below 16
 --   linear_call_map                    call_map with the linear extension
 --   CallsAreBilinear                   where the callee's map is affine, the map of a call is linear_call_map; and that is
 --                                      linear in the caller's map with the callee's kept, and linear in the callee's with
@@ -36,11 +38,11 @@ use Rattle.row_modules.specs.Forms.{Annihilates}
 use Rattle.row_modules.specs.Bases.{used_positions}
 use Rattle.row_modules.specs.Choices.{IsChoice}
 use Rattle.row_modules.specs.Positions.{has, with_constant, IsRowOn, IsUnitOn}
-use Rattle.map_modules.specs.Matrices.{matrix, product, apply, linear_extension, IsAffine, IsMatrixOn}
+use Rattle.map_modules.specs.Matrices.{entry, matrix, product, apply, linear_extension, IsAffine, IsMatrixOn}
 use Rattle.affine_prog.specs.declared.Program.{Program}
 use Rattle.affine_prog.specs.declared.Assign.{Assign}
 use Rattle.affine_prog.specs.Programs.{entry_of, owner_of, visible_in, IsWellFormed}
-use Rattle.affine_prog.specs.Assignments.{position_of, unknown_count, Choice}
+use Rattle.affine_prog.specs.Assignments.{position_of, unknown_count, Choice, matrix_of}
 use Rattle.affine_prog.specs.LevelPaths.{opening_map, step_map, call_map, LevelPath}
 use Rattle.affine_prog.specs.OpenPaths.{Start, OpenPath}
 use Rattle.affine_prog.specs.Relations.{IsReached, Holds}
@@ -67,6 +69,11 @@ StepsAreLinear = (assigns : List Assign) (words : List ℕ) → IsLinear 289 289
 abbrev pub StepsAreAffineInChoices : Type 0
 StepsAreAffineInChoices =
     (assigns : List Assign) (m : List ℕ) → All (λ a. position_of a < 16) assigns → IsRow 289 m → IsAffineInChoices assigns m
+
+abbrev pub ChoicesMoveConstants : Type 0
+ChoicesMoveConstants =
+    (assigns : List Assign) (words others : List ℕ) → All (λ a. position_of a < 16) assigns → (i j : ℕ) → i < 17 → j < 16
+    → entry (matrix_of assigns words) i j ≡ entry (matrix_of assigns others) i j
 
 abbrev pub linear_call_map : ℕ → ℕ → List ℕ → List ℕ → List ℕ → List ℕ
 linear_call_map registers slots before callee caller = product (linear_extension registers slots callee) (product before caller)

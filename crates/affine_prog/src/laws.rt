@@ -1,11 +1,12 @@
 //! What holds of all paths. Each function runs nothing; its contract is a law.
 
-ghost use Rattle.affine_prog.specs.Laws.{CallsAreBilinear, HoldsIsAnnihilation, LevelMapsAreAffine, LevelMapsAreOnVisible, LevelMapsUseFew, LevelPathsStay, OpenPathsEndInOwner, OpenStatesAreOnVisible, OpenStatesAreStates, OpenStatesUseFew, OpeningsAreAffine, OpeningsAreSpanned, StartIsReached, StartsAreSpanned, StepsAreAffineInChoices, StepsAreLinear};
+ghost use Rattle.affine_prog.specs.Laws.{CallsAreBilinear, ChoicesMoveConstants, HoldsIsAnnihilation, LevelMapsAreAffine, LevelMapsAreOnVisible, LevelMapsUseFew, LevelPathsStay, OpenPathsEndInOwner, OpenStatesAreOnVisible, OpenStatesAreStates, OpenStatesUseFew, OpeningsAreAffine, OpeningsAreSpanned, StartIsReached, StartsAreSpanned, StepsAreAffineInChoices, StepsAreLinear};
 
-/// The map of a step is linear in the map before it, and affine in the words that are chosen.
+/// The map of a step is linear in the map before it, and affine in the words that are chosen; these move its constants alone.
 pub fn steps_are_affine_in_choices()
     ensures linear { StepsAreLinear }
     ensures affine { StepsAreAffineInChoices }
+    ensures constants { ChoicesMoveConstants }
 {}
 
 /// The map of a call is linear in the caller's map, and linear in the callee's.

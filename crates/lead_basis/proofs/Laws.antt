@@ -6,6 +6,7 @@ pub use Rattle.lead_basis.proofs.Remains.{empty_span, same_remainder, member_fro
 pub use Rattle.lead_basis.proofs.Taking.{leads_at, leads_rise}
 pub use Rattle.lead_basis.proofs.Between.{later_within, within_with}
 pub use Rattle.lead_basis.proofs.Uniqueness.{no_rows, first_lead, turned, transitive, unique_reduced, as_many_rows}
-pub use Rattle.lead_basis.proofs.Lengths.{length_bound}
+pub use Rattle.lead_basis.proofs.Lengths.{length_bound, length_within_used}
 pub use Rattle.lead_basis.proofs.Included.{length_within}
 pub use Rattle.lead_basis.proofs.Annihilating.{same_annihilators}
+pub use Rattle.lead_basis.proofs.Existence.{list_has_basis}

@@ -21,4 +21,5 @@ pub mod Trailing
 pub mod Units
 pub mod Tails
 pub mod Annihilating
+pub mod Existence
 pub mod Laws

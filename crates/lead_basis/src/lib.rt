@@ -28,7 +28,7 @@ mod tests;
 
 pub use annihilator::generators_tell_annihilators;
 pub use basis::Basis;
-pub use meaning::bases_tell_their_modules;
+pub use meaning::{bases_tell_their_modules, modules_have_bases};
 pub use steps::Steps;
 
 /// Want of memory.

@@ -1,6 +1,6 @@
 ghost use Rattle.std.specs.Prelude.{◌≡◌, ◌<◌};
 
-use crate::{Basis, Memory, Steps, bases_tell_their_modules};
+use crate::{Basis, Memory, Steps, bases_tell_their_modules, modules_have_bases};
 use std::alloc::Global;
 use std::marker::Brand;
 use std::sync::ledger::{Blank, Ledger};
@@ -135,6 +135,7 @@ fn deepest<L: Ledger>(alloc: Global, blank: Blank) -> Result<bool, Memory>
 #[test]
 fn a_row_with_an_even_pivot(rt: HostRuntime) {
     bases_tell_their_modules();
+    modules_have_bases();
     assert!(rt; pairs::<Brand>(rt.alloc(), Blank::new(1)) == Ok(true));
 }
 

@@ -7,3 +7,4 @@ pub mod Laws
 mod ByIndex
 mod Newton
 mod Zeros
+pub mod Inverses
