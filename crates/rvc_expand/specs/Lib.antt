@@ -1,0 +1,4 @@
+pub mod Halves
+pub mod Immediates
+pub mod Rows
+pub mod Lengths
