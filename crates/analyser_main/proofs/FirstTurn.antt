@@ -3,7 +3,7 @@ use Rattle.std.proofs.Common.{◌≡◌, ℕ, ◌≤◌, ◌⊎◌, inl, inr, Li
 use Rattle.std.specs.Prelude.{MatchOption}
 use Prim.Native.Nat.{min}
 use Rattle.std.proofs.lemmas.List.Elements.{All-push, All-weaker, Contains-append_left, Contains-push}
-use Rattle.flow_points.specs.declared.steps.CodePoint.{CodePoint}
+use Rattle.flow_points.specs.declared.code_points.CodePoint.{CodePoint}
 use Rattle.analyser_main.specs.Turns.{Turns, HasNoTurn, IsFirstTurn}
 
 abbrev pub Settles : Option ℕ → List CodePoint → Type 0

@@ -4,8 +4,8 @@ use Rattle.std.specs.Ordering.{int_eq}
 use Rattle.rv_decode.specs.declared.instructions.Instr.{Instr}
 use Rattle.rv_decode.specs.declared.instructions.Instr.TheVariants.{Lui, Auipc, Jal, Jalr, Branch as BranchInstr, Load, Store, Imm, Shift, Reg, Fence, Ecall, Ebreak}
 use Rattle.flow_points.specs.Flows.{HasFlow, outside, unknown, known, flow_of, aligned, linked, indirect, next, plus, pair_target}
-use Rattle.flow_points.specs.declared.steps.Flow.{Flow}
-use Rattle.flow_points.specs.declared.steps.Flow.TheVariants.{Next, Jump, Branch, Call, Return}
+use Rattle.flow_points.specs.declared.code_points.Flow.{Flow}
+use Rattle.flow_points.specs.declared.code_points.Flow.TheVariants.{Next, Jump, Branch, Call, Return}
 use Rattle.flow_points.specs.declared.refusal.FlowRefusal.{FlowRefusal}
 use Rattle.flow_points.specs.declared.refusal.FlowRefusal.TheVariants.{OddLink, IndirectJump, MisalignedTarget}
 use Rattle.analyser_main.specs.Turns.{Turns}

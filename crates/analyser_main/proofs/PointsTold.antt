@@ -2,7 +2,7 @@
 use Rattle.std.proofs.Common.{◌≡◌, ℕ, zero, suc, ◌+◌, ◌-◌, ◌<◌, ◌⊎◌, inl, inr, List, [], ◌∷◌, ◌++◌, ◌∙◌, length, get_or, slice_get, map, All, Some, refl, sym, subst, length-append, arith}
 use Rattle.std.proofs.lemmas.Option.{slice_get_within, get_or_from_slice_get, slice_get-get_or}
 use Rattle.flow_points.specs.PointLists.{FlowPoints, IsBefore}
-use Rattle.flow_points.specs.declared.steps.CodePoint.{CodePoint}
+use Rattle.flow_points.specs.declared.code_points.CodePoint.{CodePoint}
 use Rattle.report_text.specs.declared.names.Name.TheVariants.{Register}
 use Rattle.report_text.specs.declared.points.PointRows.{PointRows}
 use Rattle.report_text.specs.Reports.{Ascend, AreRowsAt}

@@ -16,8 +16,8 @@ use Rattle.report_text.specs.declared.names.Name.TheVariants.{Register}
 use Rattle.report_text.specs.Names.{IsSeenAt}
 use Rattle.report_text.specs.Reports.{AreRelationRows}
 use Rattle.flow_points.specs.PointLists.{FlowPoints}
-use Rattle.flow_points.specs.declared.steps.Point.{Point}
-use Rattle.flow_points.specs.declared.steps.CodePoint.{CodePoint}
+use Rattle.flow_points.specs.declared.code_points.Point.{Point}
+use Rattle.flow_points.specs.declared.code_points.CodePoint.{CodePoint}
 use Rattle.analyser_main.specs.States.{IsStateAt, Holds}
 use Rattle.report_text.specs.declared.points.PointState.{PointState}
 use Rattle.report_text.specs.declared.points.PointState.TheVariants.{Unreached, Rows}

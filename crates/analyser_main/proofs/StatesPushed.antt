@@ -10,9 +10,9 @@ use Rattle.module_push.proofs.Maps.{images_same}
 use Rattle.row_modules.proofs.Laws.{same_with, same_members}
 use Rattle.flow_points.specs.Walks.{start}
 use Rattle.flow_points.specs.PointLists.{FlowPoints}
-use Rattle.flow_points.specs.declared.steps.Point.{Point}
-use Rattle.flow_points.specs.declared.steps.CodePoint.{CodePoint}
-use Rattle.flow_points.proofs.Lists.{item_there}
+use Rattle.flow_points.specs.declared.code_points.Point.{Point}
+use Rattle.flow_points.specs.declared.code_points.CodePoint.{CodePoint}
+use Rattle.flow_points.proofs.Cited.{item_there}
 use Rattle.analyser_main.specs.Effects.{effect_of}
 use Rattle.analyser_main.specs.Turns.{GoesTo, AreStraight}
 use Rattle.analyser_main.specs.States.{IsStart, MakesAll, IsStateAt, entered, stepped}

@@ -10,7 +10,7 @@ use Rattle.affine_prog.specs.declared.Assign.{Assign}
 use Rattle.affine_prog.specs.declared.Assign.TheVariants.{Affine, Any}
 use Rattle.word_rows.proofs.Laws.{IsRow-set}
 use Rattle.flow_points.specs.PointLists.{FlowPoints}
-use Rattle.flow_points.specs.declared.steps.Point.{Point}
+use Rattle.flow_points.specs.declared.code_points.Point.{Point}
 use Rattle.rv_decode.specs.declared.instructions.Instr.{Instr}
 use Rattle.analyser_main.specs.declared.values.Value.{Value}
 use Rattle.analyser_main.specs.declared.values.Value.TheVariants.{Linear, Unknown}

@@ -3,8 +3,8 @@ use Rattle.std.proofs.Common.{◌≡◌, ◌≢◌, ℕ, rules, ◌+◌, ◌<◌
 use Rattle.std.proofs.lemmas.Option.{slice_get_within}
 use Rattle.flow_points.specs.Walks.{start}
 use Rattle.flow_points.specs.PointLists.{FlowPoints, places_of}
-use Rattle.flow_points.specs.declared.steps.Point.{Point}
-use Rattle.flow_points.specs.declared.steps.CodePoint.{CodePoint}
+use Rattle.flow_points.specs.declared.code_points.Point.{Point}
+use Rattle.flow_points.specs.declared.code_points.CodePoint.{CodePoint}
 use Rattle.analyser_main.specs.Turns.{GoesTo, AreStraight}
 use Rattle.analyser_main.proofs.StraightFlow.{reached}
 use Rattle.analyser_main.proofs.StraightOrder.{IsAt, there_at, same_number, from_before, from_last}

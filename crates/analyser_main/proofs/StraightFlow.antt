@@ -5,13 +5,12 @@ use Rattle.flow_points.specs.Flows.{HasFlow, next}
 use Rattle.flow_points.specs.Walks.{FlowWalk, begin, onward, start, point, successors_of}
 use Rattle.flow_points.specs.Sites.{IsCode}
 use Rattle.flow_points.specs.PointLists.{FlowPoints}
-use Rattle.flow_points.specs.declared.steps.Point.{Point}
-use Rattle.flow_points.specs.declared.steps.CodePoint.{CodePoint}
+use Rattle.flow_points.specs.declared.code_points.Point.{Point}
+use Rattle.flow_points.specs.declared.code_points.CodePoint.{CodePoint}
 use Rattle.flow_points.specs.declared.refusal.FlowRefusal.{FlowRefusal}
-use Rattle.flow_points.specs.declared.steps.Flow.{Flow}
-use Rattle.flow_points.specs.declared.steps.Flow.TheVariants.{Next, Jump, Branch, Call, Return, Halt}
-use Rattle.flow_points.proofs.Jumps.{from_map}
-use Rattle.flow_points.proofs.OneOutcome.{judged_once}
+use Rattle.flow_points.specs.declared.code_points.Flow.{Flow}
+use Rattle.flow_points.specs.declared.code_points.Flow.TheVariants.{Next, Jump, Branch, Call, Return, Halt}
+use Rattle.flow_points.proofs.Cited.{from_map, judged_once}
 use Rattle.analyser_main.specs.Turns.{Turns, GoesTo, AreStraight}
 use Rattle.analyser_main.proofs.FlowGoesOn.{goes_next}
 

@@ -7,9 +7,9 @@ use Rattle.std.proofs.lemmas.Option.{slice_get_within, get_or_from_slice_get, sl
 use Rattle.flow_points.specs.Flows.{next}
 use Rattle.flow_points.specs.Walks.{start}
 use Rattle.flow_points.specs.PointLists.{FlowPoints, IsBefore}
-use Rattle.flow_points.specs.declared.steps.Point.{Point}
-use Rattle.flow_points.specs.declared.steps.CodePoint.{CodePoint}
-use Rattle.flow_points.proofs.Lists.{item_there}
+use Rattle.flow_points.specs.declared.code_points.Point.{Point}
+use Rattle.flow_points.specs.declared.code_points.CodePoint.{CodePoint}
+use Rattle.flow_points.proofs.Cited.{item_there}
 use Rattle.analyser_main.specs.Turns.{GoesTo, AreStraight}
 use Rattle.analyser_main.proofs.StraightFlow.{one_item, goes_behind, IsReached, walked_to, walk_of, stands, below_end}
 

@@ -14,7 +14,8 @@
 --   effect_of registers a instr  the assignments of the instruction at the address a
 use Rattle.std.specs.Prelude.{ℕ, zero, ◌+◌, ◌-◌, ◌*◌, ◌%◌, ◌^◌, ℤ, negsuc, Bool, ◌||◌, ◌&&◌, nat_lt, List, [], ◌∷◌, length, Option, Some, None, is_some, position, slice_index, if◌then◌else◌, ◌==◌}
 use Rattle.std.specs.Option.{option_map_or}
-use Rattle.std.specs.Int.{w32, w64, cast_signed, cast_unsigned}
+use Rattle.std.specs.Int.{w64, cast_unsigned}
+use Rattle.flow_points.specs.Flows.{next, plus, upper_offset}
 use Rattle.word_rows.specs.Words.{word}
 use Rattle.map_modules.specs.Matrices.{vector}
 use Rattle.affine_prog.specs.declared.Assign.{Assign}
@@ -40,14 +41,6 @@ no_term = term 0 0
 -- a signed number as a word
 abbrev pub as_word : ℤ → ℕ
 as_word z = cast_unsigned w64 z
-
--- the low 32 bits, sign-extended
-abbrev pub extended : ℕ → ℕ
-extended n = as_word (cast_signed w32 (n % 2 ^ 32))
-
--- the value of the immediate of LUI and AUIPC
-abbrev pub upper : ℕ → ℕ
-upper imm = extended (imm * 2 ^ 12)
 
 -- the value of a factor times a register, of a register alone, and of a constant
 abbrev pub multiple : ℕ → ℕ → Value
@@ -79,10 +72,10 @@ reg_value Mul rs1 rs2 = option_map_or (λ r. constant 0) (beside_zero rs1 rs2) U
 reg_value op rs1 rs2 = Unknown
 
 abbrev pub result_of : ℕ → Instr → Option (ℕ × Value)
-result_of a (Lui rd imm) = Some (rd, constant (upper imm))
-result_of a (Auipc rd imm) = Some (rd, constant (word (a + upper imm)))
-result_of a (Jal rd off) = Some (rd, constant (word (a + 4)))
-result_of a (Jalr rd rs1 imm) = Some (rd, constant (word (a + 4)))
+result_of a (Lui rd imm) = Some (rd, constant (as_word (upper_offset imm)))
+result_of a (Auipc rd imm) = Some (rd, constant (plus a (upper_offset imm)))
+result_of a (Jal rd off) = Some (rd, constant (next a))
+result_of a (Jalr rd rs1 imm) = Some (rd, constant (next a))
 result_of a (Branch op rs1 rs2 off) = None
 result_of a (Load op rd rs1 imm) = Some (rd, Unknown)
 result_of a (Store op rs1 rs2 imm) = None

@@ -8,7 +8,7 @@ use Rattle.std.specs.Prelude.{ℕ, List, [], ◌∷◌, ◌++◌, Option, Some, 
 use Rattle.number_text.specs.Numerals.{hex, hex8}
 use Rattle.rv_text.specs.Text.{instr_text}
 use Rattle.report_text.specs.Text.{nl, opening_text}
-use Rattle.flow_points.specs.declared.steps.CodePoint.{CodePoint}
+use Rattle.flow_points.specs.declared.code_points.CodePoint.{CodePoint}
 
 abbrev pub code_text : CodePoint → List ℕ
 code_text code = hex code.point.address ++ codes " " ++ hex8 code.word ++ codes " " ++ instr_text code.instr ++ nl

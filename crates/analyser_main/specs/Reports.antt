@@ -7,7 +7,7 @@
 use Rattle.std.specs.Prelude.{◌≡◌, ℕ, List, Some, length, map, slice_get}
 use Rattle.row_modules.specs.Modules.{Generates}
 use Rattle.flow_points.specs.PointLists.{FlowPoints}
-use Rattle.flow_points.specs.declared.steps.CodePoint.{CodePoint}
+use Rattle.flow_points.specs.declared.code_points.CodePoint.{CodePoint}
 use Rattle.report_text.specs.declared.names.Name.TheVariants.{Register}
 use Rattle.report_text.specs.declared.points.PointRows.{PointRows}
 use Rattle.report_text.specs.declared.points.PointState.TheVariants.{Rows}

@@ -8,8 +8,8 @@
 use Rattle.std.specs.Prelude.{◌≡◌, ℕ, ◌+◌, ◌<◌, ◌≤◌, List, Some, length, map, slice_get, Contains}
 use Rattle.row_modules.specs.Modules.{SameModule}
 use Rattle.flow_points.specs.PointLists.{FlowPoints}
-use Rattle.flow_points.specs.declared.steps.Point.{Point}
-use Rattle.flow_points.specs.declared.steps.CodePoint.{CodePoint}
+use Rattle.flow_points.specs.declared.code_points.Point.{Point}
+use Rattle.flow_points.specs.declared.code_points.CodePoint.{CodePoint}
 use Rattle.report_text.specs.Reports.{AreRelationRows}
 use Rattle.report_text.specs.declared.names.Name.TheVariants.{Register}
 use Rattle.report_text.specs.declared.points.PointRows.{PointRows}

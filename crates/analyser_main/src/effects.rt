@@ -3,7 +3,8 @@
 ghost use Rattle.std.specs.Prelude.{◌≡◌, ◌≤◌, ◌<◌, ◌-◌, ◌^◌, [], ◌∷◌, length, MatchOption};
 ghost use Rattle.rv_decode.specs.Instructions.{IsWellFormed};
 ghost use Rattle.affine_prog.specs.Assignments.{position_of};
-ghost use Rattle.analyser_main.specs.Effects.{upper, term, multiple, constant, beside_zero, imm_value, shift_value, reg_value, result_of, place_of, factor_at, coefficient, is_nameable, row_of, assigned, effect_of};
+ghost use Rattle.flow_points.specs.Flows.{upper_offset};
+ghost use Rattle.analyser_main.specs.Effects.{term, multiple, constant, beside_zero, imm_value, shift_value, reg_value, result_of, place_of, factor_at, coefficient, is_nameable, row_of, assigned, effect_of};
 
 use crate::values::{Term, Value};
 use affine_prog::Assign;
@@ -98,8 +99,11 @@ fn result_of(address: u64, instr: Instr) -> Option<(u8, Value)>
     ensures { result ≡ result_of address instr }
 {
     match instr {
-        Instr::Lui { rd, imm } => Some((rd, constant(upper(imm)))),
-        Instr::Auipc { rd, imm } => Some((rd, constant(address.wrapping_add(upper(imm))))),
+        Instr::Lui { rd, imm } => Some((rd, constant(upper_offset(imm).cast_unsigned()))),
+        Instr::Auipc { rd, imm } => Some((
+            rd,
+            constant(address.wrapping_add_signed(upper_offset(imm))),
+        )),
         Instr::Jal { rd, .. } | Instr::Jalr { rd, .. } => Some((
             rd,
             constant(address.wrapping_add(4)),
@@ -213,9 +217,9 @@ fn constant(word: u64) -> Value
     }
 }
 
-// The value of the immediate of LUI and AUIPC.
-fn upper(imm: u32) -> u64
-    ensures { result ≡ upper imm }
+// What LUI sets, and what AUIPC adds to its address.
+fn upper_offset(imm: u32) -> i64
+    ensures { result ≡ upper_offset imm }
 {
-    i64::from(imm.wrapping_mul(4096).cast_signed()).cast_unsigned()
+    i64::from(imm.wrapping_mul(4096).cast_signed())
 }

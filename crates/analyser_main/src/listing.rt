@@ -5,7 +5,7 @@ ghost use Rattle.rv_decode.specs.Instructions.{IsWellFormed};
 ghost use Rattle.report_text.specs.Text.{opening_text};
 ghost use Rattle.analyser_main.specs.Listing.{code_text, list_text};
 
-use crate::codes::{code_at, known_codes};
+use crate::codes::known_codes;
 use flow_points::{CodePoint, Points};
 use number_text::{push_hex, push_hex8};
 use rv_text::write_instr;
@@ -19,7 +19,7 @@ pub fn write_list(alloc: Global, points: &Points) -> Result<Vec<u8>, AllocError>
     let mut text = Vec::from_slice(alloc, b"affine-list 1\n")?;
     let mut before = None;
     for i in 0..points.count() {
-        let code = code_at(points, i);
+        let code = points.code(i);
         push_opening(&mut text, before, code.point.proc_entry)?;
         push_code(alloc, &mut text, &code)?;
         before = Some(code.point.proc_entry);

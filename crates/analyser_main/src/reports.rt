@@ -13,7 +13,7 @@ ghost use Rattle.analyser_main.specs.Runs.{AreTold, FollowOn, SpansAt, SpansBehi
 ghost use Rattle.analyser_main.specs.Reports.{IsReportOf};
 ghost use Rattle.analyser_main.specs.Steps.{IsNext, Relates};
 
-use crate::codes::{code_at, known_codes};
+use crate::codes::known_codes;
 use crate::effects::assignment_of;
 use crate::refusals::Refusal;
 use flow_points::laws::points_are_closed;
@@ -84,7 +84,7 @@ fn told_along(
     let mut states = start;
     let mut told = Items::new(alloc);
     for i in numbers.start..numbers.end {
-        let code = code_at(points, i);
+        let code = points.code(i);
         let state = state_of(alloc, &states, visible)?;
         told.push(PointRows {
             proc_entry: code.point.proc_entry,

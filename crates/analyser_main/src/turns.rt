@@ -2,9 +2,8 @@
 
 ghost use Rattle.std.specs.Prelude.{◌≡◌, ◌↔◌, List, [], ◌∷◌, ◌++◌, IsTrue, MatchOption};
 ghost use Rattle.analyser_main.specs.Turns.{Turns, HasNoTurn, IsFirstTurn};
-ghost use Rattle.flow_points.specs.declared.steps.CodePoint.{CodePoint as Code};
+ghost use Rattle.flow_points.specs.declared.code_points.CodePoint.{CodePoint as Code};
 
-use crate::codes::code_at;
 use flow_points::{CodePoint, Flow, Points};
 
 /// The least address of a point whose flow turns, where there is one.
@@ -13,7 +12,7 @@ pub fn first_turn(points: &Points) -> Option<u64>
 {
     let mut first = None;
     for i in 0..points.count() {
-        first = earlier(first, code_at(points, i));
+        first = earlier(first, points.code(i));
     }
     first
 }

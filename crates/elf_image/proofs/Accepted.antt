@@ -32,9 +32,9 @@ at_header-none refusal (Some h) none = absurd (cc)
 no_bad : (size : ℕ) (headers : List ProgramHeader) → header_refusal size headers ≡ None → find (is_bad size) headers ≡ None
 unfolding header_refusal
 no_bad size headers none =
-    let dynamic = at_header (λ place. Dynamic place) (find is_dynamic headers) in
-    let bad = at_header (λ place. BadSegment place) (find (is_bad size) headers) in
-    at_header-none (λ place. BadSegment place) _ (first_of-none (dynamic ∷ bad ∷ []) none 1 None (lit< tt))
+    let dynamic = at_header (λ offset. Dynamic offset) (find is_dynamic headers) in
+    let bad = at_header (λ offset. BadSegment offset) (find (is_bad size) headers) in
+    at_header-none (λ offset. BadSegment offset) _ (first_of-none (dynamic ∷ bad ∷ []) none 1 None (lit< tt))
 
 loadable : (size : ℕ) (h : ProgramHeader) → is_bad size h ≡ false → is_kept h ≡ true → IsLoadable size (segment_of h)
 loadable size h fits kept = grind (arith, common_steps)
@@ -52,11 +52,11 @@ segments_loadable bytes none =
 kept_rows : (kept : List ProgramHeader) → kept_refusal kept ≡ None → (slice_get kept 64 ≡ None) × (find (shares_earlier kept) kept ≡ None)
 unfolding kept_refusal
 kept_rows kept none =
-    let many = at_header (λ place. TooManySegments 64 place) (slice_get kept 64) in
-    let shared = at_header (λ place. Overlap place) (find (shares_earlier kept) kept) in
+    let many = at_header (λ offset. TooManySegments 64 offset) (slice_get kept 64) in
+    let shared = at_header (λ offset. Overlap offset) (find (shares_earlier kept) kept) in
     let rows = first_of-none (many ∷ shared ∷ []) none in (
-      at_header-none (λ place. TooManySegments 64 place) _ (rows 0 None (lit< tt)),
-      at_header-none (λ place. Overlap place) _ (rows 1 None (lit< tt)),
+      at_header-none (λ offset. TooManySegments 64 offset) _ (rows 0 None (lit< tt)),
+      at_header-none (λ offset. Overlap offset) _ (rows 1 None (lit< tt)),
     )
 
 pub segments_few : (bytes : List ℕ) → refusal_of bytes ≡ None → length (segments_of bytes) ≤ 64

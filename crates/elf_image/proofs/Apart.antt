@@ -15,28 +15,28 @@ use Rattle.elf_image.specs.declared.segment.Segment.{Segment}
 use Rattle.elf_image.proofs.Found.{find-none}
 use Rattle.elf_image.proofs.Held.{both_hold}
 
-place_of : (bytes : List ℕ) (place : ℕ) → (header_at bytes place).place ≡ place
+offset_of : (bytes : List ℕ) (offset : ℕ) → (header_at bytes offset).offset ≡ offset
 unfolding header_at
-place_of bytes place = refl
+offset_of bytes offset = refl
 
 -- the headers of the table stand below its end
-below : (bytes : List ℕ) (n : ℕ) → All (λ h. h.place < e_phoff bytes + 56 * n) (first_headers bytes n)
-below bytes zero = All-nil (λ h. h.place < e_phoff bytes + 56 * 0)
+below : (bytes : List ℕ) (n : ℕ) → All (λ h. h.offset < e_phoff bytes + 56 * n) (first_headers bytes n)
+below bytes zero = All-nil (λ h. h.offset < e_phoff bytes + 56 * 0)
 below bytes (suc n) =
     let end = e_phoff bytes + 56 * n in
     let last = header_at bytes end in
-    let P : ProgramHeader → Type 0 = λ h. h.place < e_phoff bytes + 56 * suc n in
+    let P : ProgramHeader → Type 0 = λ h. h.offset < e_phoff bytes + 56 * suc n in
     let earlier : All P (first_headers bytes n) = λ k d within. let b = below bytes n k d within in omega arith in
-    let here : P last = let e = place_of bytes end in omega arith in
+    let here : P last = let e = offset_of bytes end in omega arith in
     All-push P (first_headers bytes n) last earlier here
 
 -- and each stands below the later ones
-rising : (bytes : List ℕ) (n : ℕ) → AllPairs (λ e h. e.place < h.place) (first_headers bytes n)
+rising : (bytes : List ℕ) (n : ℕ) → AllPairs (λ e h. e.offset < h.offset) (first_headers bytes n)
 rising bytes zero = λ i j d lt within. absurd (omega arith)
 rising bytes (suc n) =
     let end = e_phoff bytes + 56 * n in
-    let here = place_of bytes end in
-    all_pairs_push (λ e h. e.place < h.place) (first_headers bytes n) (header_at bytes end) (rising bytes n)
+    let here = offset_of bytes end in
+    all_pairs_push (λ e h. e.offset < h.offset) (first_headers bytes n) (header_at bytes end) (rising bytes n)
     (λ k d within. let lower = below bytes n k d within in omega arith)
 
 none_pass : {X : Type 0} (p : X → Bool) (xs : List X) → list_any p xs ≡ false → All (λ x. p x ≡ false) xs
@@ -46,7 +46,7 @@ none_pass p xs none k d within =
       | false ↦ λ fails. refl
     ] refl
 
-not_sharing : (e h : ProgramHeader) → e.place < h.place → (nat_lt e.place h.place && shares_address (segment_of e) (segment_of h)) ≡ false → shares_address (segment_of e) (segment_of h) ≡ false
+not_sharing : (e h : ProgramHeader) → e.offset < h.offset → (nat_lt e.offset h.offset && shares_address (segment_of e) (segment_of h)) ≡ false → shares_address (segment_of e) (segment_of h) ≡ false
 not_sharing e h lt none = grind (arith, common_steps)
 
 AllPairs-map : {X Y : Type 0} (R : Y → Y → Type 0) (f : X → Y) (xs : List X) → AllPairs (λ x y. R (f x) (f y)) xs → AllPairs R (map f xs)
@@ -58,14 +58,14 @@ AllPairs-map R f (x ∷ xs) pairs =
 pub segments_apart : (bytes : List ℕ) → find (shares_earlier (kept_headers bytes)) (kept_headers bytes) ≡ None → AllPairs (λ s t. shares_address s t ≡ false) (segments_of bytes)
 segments_apart bytes none =
     let kept = kept_headers bytes in
-    let in_order = AllPairs-filter (λ e h. e.place < h.place) is_kept (headers_of bytes) (rising bytes (e_phnum bytes)) in
+    let in_order = AllPairs-filter (λ e h. e.offset < h.offset) is_kept (headers_of bytes) (rising bytes (e_phnum bytes)) in
     AllPairs-map (λ s t. shares_address s t ≡ false) segment_of kept (λ i j d lt within.
     let e = get_or kept i d in
     let h = get_or kept j d in
     let no_earlier = find-none (shares_earlier kept) kept none j d within in
     let i_within : i < length kept = omega arith in
     not_sharing e h (in_order i j d lt within)
-    (none_pass (λ e. nat_lt e.place h.place && shares_address (segment_of e) (segment_of h)) kept no_earlier i d i_within))
+    (none_pass (λ e. nat_lt e.offset h.offset && shares_address (segment_of e) (segment_of h)) kept no_earlier i d i_within))
 
 -- so a segment that holds an address is the one that is found
 pub one_holder : (segments : List Segment) → AllPairs (λ s t. shares_address s t ≡ false) segments → (s : Segment) (a k : ℕ) → k < length segments → get_or segments k s ≡ s → holds s a ≡ true → find (λ t. holds t a) segments ≡ Some s

@@ -1,25 +1,26 @@
 -- Program headers: System V ABI, "Program Header". A header has 56 bytes.
 --
---   header_at bytes place   the header whose first byte stands at this place in the file
---   headers_of bytes        the headers of the table, in order
---   is_load h               it is of type PT_LOAD
---   is_dynamic h            it is of type PT_DYNAMIC or PT_INTERP
---   is_bad size h           a PT_LOAD header of a file of this size whose stored bytes don't lie in the
---                           file, or are more than its memory, or whose addresses end above 2^64
---   is_kept h               a PT_LOAD header with memory
+--   header_at bytes offset   the header whose first byte stands at this offset in the file
+--   first_headers bytes n    the first n headers of the table, in order
+--   headers_of bytes         all of them
+--   is_load h                it is of type PT_LOAD
+--   is_dynamic h             it is of type PT_DYNAMIC or PT_INTERP
+--   is_bad size h            a PT_LOAD header of a file of this size whose stored bytes don't lie in the
+--                            file, or are more than its memory, or whose addresses end above 2^64
+--   is_kept h                a PT_LOAD header with memory
 use Rattle.std.specs.Prelude.{ℕ, zero, suc, ◌+◌, ◌*◌, ◌^◌, nat_lt, ◌==◌, Bool, ◌&&◌, ◌||◌, List, [], ◌∷◌, ◌++◌}
 use Rattle.elf_image.specs.Fields.{little_at, e_phoff, e_phnum}
 use Rattle.elf_image.specs.declared.program_header.ProgramHeader.{ProgramHeader}
 
 unfoldable pub header_at : List ℕ → ℕ → ProgramHeader
-header_at bytes place = record {
-  place = place;
-  p_type = little_at 4 bytes place;
-  p_flags = little_at 4 bytes (place + 4);
-  p_offset = little_at 8 bytes (place + 8);
-  p_vaddr = little_at 8 bytes (place + 16);
-  p_filesz = little_at 8 bytes (place + 32);
-  p_memsz = little_at 8 bytes (place + 40);
+header_at bytes offset = record {
+  offset = offset;
+  p_type = little_at 4 bytes offset;
+  p_flags = little_at 4 bytes (offset + 4);
+  p_offset = little_at 8 bytes (offset + 8);
+  p_vaddr = little_at 8 bytes (offset + 16);
+  p_filesz = little_at 8 bytes (offset + 32);
+  p_memsz = little_at 8 bytes (offset + 40);
 }
 
 -- the first n of them

@@ -1,7 +1,7 @@
 -- When bytes are refused. Each condition is one on all the bytes; sums are whole numbers.
 --
 --   when condition refusal        the refusal, where the condition holds
---   at_header refusal found       the refusal at the place of the header that was found, if one was
+--   at_header refusal found       the refusal at the offset of the header that was found, if one was
 --   first_of refusals             the first refusal of a list
 --   magic                         the four bytes that open every ELF file
 --   identity_refusal bytes        the refusal for what the file's first bytes say of it
@@ -29,7 +29,7 @@ abbrev pub when : Bool → ElfRefusal → Option ElfRefusal
 when condition refusal = if condition then Some refusal else None
 
 abbrev pub at_header : (ℕ → ElfRefusal) → Option ProgramHeader → Option ElfRefusal
-at_header refusal found = option_map (λ h. refusal h.place) found
+at_header refusal found = option_map (λ h. refusal h.offset) found
 
 abbrev pub first_of : List (Option ElfRefusal) → Option ElfRefusal
 first_of [] = None
@@ -63,18 +63,18 @@ table_refusal bytes = first_of (
 
 unfoldable pub header_refusal : ℕ → List ProgramHeader → Option ElfRefusal
 header_refusal size headers = first_of (
-    at_header (λ place. Dynamic place) (find is_dynamic headers)
-    ∷ at_header (λ place. BadSegment place) (find (is_bad size) headers)
+    at_header (λ offset. Dynamic offset) (find is_dynamic headers)
+    ∷ at_header (λ offset. BadSegment offset) (find (is_bad size) headers)
     ∷ [])
 
 abbrev pub shares_earlier : List ProgramHeader → ProgramHeader → Bool
 shares_earlier headers h =
-    list_any (λ e. nat_lt e.place h.place && shares_address (segment_of e) (segment_of h)) headers
+    list_any (λ e. nat_lt e.offset h.offset && shares_address (segment_of e) (segment_of h)) headers
 
 unfoldable pub kept_refusal : List ProgramHeader → Option ElfRefusal
 kept_refusal kept = first_of (
-    at_header (λ place. TooManySegments 64 place) (slice_get kept 64)
-    ∷ at_header (λ place. Overlap place) (find (shares_earlier kept) kept)
+    at_header (λ offset. TooManySegments 64 offset) (slice_get kept 64)
+    ∷ at_header (λ offset. Overlap offset) (find (shares_earlier kept) kept)
     ∷ [])
 
 unfoldable pub entry_refusal : List Segment → ℕ → Option ElfRefusal

@@ -32,12 +32,12 @@ pub fn check_headers(headers: &[ProgramHeader], size: usize) -> Result<(), ElfRe
 {
     if let Some(header) = first_dynamic(headers) {
         return Err(ElfRefusal::Dynamic {
-            offset: header.place,
+            offset: header.offset,
         });
     }
     if let Some(header) = first_bad(headers, size) {
         return Err(ElfRefusal::BadSegment {
-            offset: header.place,
+            offset: header.offset,
         });
     }
     Ok(())

@@ -36,12 +36,12 @@ pub fn check_kept(kept: &[ProgramHeader]) -> Result<(), ElfRefusal>
     if let Some(header) = kept.get(MOST_SEGMENTS) {
         return Err(ElfRefusal::TooManySegments {
             limit: MOST_SEGMENTS as u32,
-            offset: header.place,
+            offset: header.offset,
         });
     }
     if let Some(header) = first_overlap(kept) {
         return Err(ElfRefusal::Overlap {
-            offset: header.place,
+            offset: header.offset,
         });
     }
     Ok(())
@@ -59,7 +59,7 @@ fn shares_earlier(kept: &[ProgramHeader], header: &ProgramHeader) -> bool
     ensures { result ≡ shares_earlier kept.now header.now }
 {
     let segment = header.segment();
-    kept.iter().any(|e| e.place < header.place && e.segment().shares_address(&segment))
+    kept.iter().any(|e| e.offset < header.offset && e.segment().shares_address(&segment))
 }
 
 /// The segments of the kept headers.

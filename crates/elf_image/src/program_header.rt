@@ -19,10 +19,10 @@ const PT_INTERP: u32 = 3;
 /// Executable.
 const PF_X: u32 = 0x1;
 
-/// A program header, with the place of its first byte in the file.
+/// A program header, with the offset of its first byte in the file.
 #[derive(Clone, Copy)]
 pub struct ProgramHeader {
-    pub place: u64,
+    pub offset: u64,
     pub p_type: u32,
     pub p_flags: u32,
     pub p_offset: u64,
@@ -32,20 +32,20 @@ pub struct ProgramHeader {
 }
 
 impl ProgramHeader {
-    /// The header that stands at a place.
+    /// The header that stands at an offset.
     #[tactic(auto, unfolding(crate::specs::Headers::header_at))]
-    pub fn read(bytes: &[u8], place: usize) -> ProgramHeader
-        requires { place + 56 ≤ length bytes.now }
-        ensures { result ≡ header_at bytes.now place }
+    pub fn read(bytes: &[u8], offset: usize) -> ProgramHeader
+        requires { offset + 56 ≤ length bytes.now }
+        ensures { result ≡ header_at bytes.now offset }
     {
         ProgramHeader {
-            place: place as u64,
-            p_type: word_at(bytes, place),
-            p_flags: word_at(bytes, place + 4),
-            p_offset: xword_at(bytes, place + 8),
-            p_vaddr: xword_at(bytes, place + 16),
-            p_filesz: xword_at(bytes, place + 32),
-            p_memsz: xword_at(bytes, place + 40),
+            offset: offset as u64,
+            p_type: word_at(bytes, offset),
+            p_flags: word_at(bytes, offset + 4),
+            p_offset: xword_at(bytes, offset + 8),
+            p_vaddr: xword_at(bytes, offset + 16),
+            p_filesz: xword_at(bytes, offset + 32),
+            p_memsz: xword_at(bytes, offset + 40),
         }
     }
 

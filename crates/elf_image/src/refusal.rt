@@ -3,7 +3,7 @@
 use thiserror::Error;
 
 /// Why there is no image of some bytes: the first condition that holds, in this order. The offset is
-/// the place in the file of what is refused; that of a header is the place of its first byte.
+/// the one in the file of what is refused; that of a header is the offset of its first byte.
 #[derive(Clone, Copy, Debug, PartialEq, Eq, Error)]
 pub enum ElfRefusal {
     /// There are fewer than the 64 bytes of a file header.
@@ -49,7 +49,7 @@ pub enum ElfRefusal {
     /// The entry isn't a multiple of 4, or its four bytes don't lie in one executable segment.
     #[error("NoCode {entry:#x} at offset {offset}")]
     NoCode { entry: u64, offset: u64 },
-    /// Want of memory.
+    /// Out of memory.
     #[error("out of memory")]
     Memory,
 }

@@ -9,12 +9,12 @@ use Rattle.flow_points.specs.Flows.{HasFlow, Judged}
 use Rattle.flow_points.specs.Walks.{FlowWalk, HasMoreThan, begin, onward, successors_of}
 use Rattle.flow_points.specs.Sites.{AreAllSites, AreSites, HasSite, HasSuccessors, IsSite}
 use Rattle.flow_points.specs.Causes.{same_point}
-use Rattle.flow_points.specs.declared.steps.Point.{Point}
-use Rattle.flow_points.specs.declared.steps.CodePoint.{CodePoint}
-use Rattle.flow_points.specs.declared.steps.Flow.{Flow}
-use Rattle.flow_points.specs.declared.steps.Site.{Site}
+use Rattle.flow_points.specs.declared.code_points.Point.{Point}
+use Rattle.flow_points.specs.declared.code_points.CodePoint.{CodePoint}
+use Rattle.flow_points.specs.declared.code_points.Flow.{Flow}
+use Rattle.flow_points.specs.declared.code_points.Site.{Site}
 use Rattle.flow_points.specs.declared.refusal.FlowRefusal.{FlowRefusal}
-use Rattle.flow_points.proofs.OneOutcome.{judged_once}
+use Rattle.flow_points.proofs.OneOutcome.{judged_once, same_flow}
 use Rattle.flow_points.proofs.SamePoint.{laws, same, tells}
 use Rattle.flow_points.proofs.SiteFacts.{site_cause, site_flow}
 
@@ -32,9 +32,6 @@ entry_of entries p there =
 pub is_site : (fetch : ℕ → Option ℕ) (entry : ℕ) (entries : List (Point × Site)) (p : Point) (s : Site)
     → AreSites fetch entry entries → Contains entries (p, s) → IsSite fetch p s
 is_site fetch entry entries p s are there = All-contains (λ (e : Point × Site). IsSite fetch e.0 e.1) entries (p, s) are.sites there
-
-pub same_flow : (f g : Flow) → (let x : Result Flow FlowRefusal = Ok f in let y : Result Flow FlowRefusal = Ok g in x ≡ y) → f ≡ g
-same_flow f g e = cc
 
 pub not_both : (fetch : ℕ → Option ℕ) (a : ℕ) (f : Flow) (cause : FlowRefusal) → HasFlow fetch a f → Judged fetch a (Err cause) → ⊥
 not_both fetch a f cause h k = let e = judged_once fetch a (Ok f) (Err cause) h k in cc

@@ -1,81 +1,21 @@
 -- Points in ascending order.
-use Rattle.std.proofs.Common.{◌≡◌, ◌≢◌, ◌⊎◌, ℕ, ◌+◌, ◌<◌, false, List, [], ◌∷◌, length, get_or, slice_get, Ok, Err, AllPairs, Contains, IsSomeAnd, sym, ap, subst, ◌∙◌, inl, inr, arith}
-use Rattle.std.specs.Cmp.{IsTotalOrder, nat_cmp_is}
-use Rattle.std.specs.Ordering.{is_lt, nat_cmp, ordering_then}
-use Rattle.std.specs.declared.cmp.Ordering.{Ordering}
-use Rattle.std.specs.declared.cmp.Ordering.TheVariants.{Less, Equal, Greater}
+use Rattle.std.proofs.Common.{◌≡◌, ℕ, ◌+◌, ◌<◌, List, [], ◌∷◌, length, get_or, slice_get, Ok, Err, AllPairs, Contains, IsSomeAnd, sym, subst, ◌∙◌, inl, inr, arith}
+use Rattle.std.specs.Ordering.{is_lt}
+use Rattle.std.specs.declared.cmp.Ordering.TheVariants.{Equal}
 use Rattle.std.specs.List.{IsDistinct}
 use Rattle.std.specs.List.Sorted.{IsBinarySearchResult, IsSorted, IsSortedBy}
 use Rattle.std.proofs.lemmas.Bool.{cases_lt}
-use Rattle.std.proofs.lemmas.Cmp.{nat_cmp_total, on_total, then_total, tied_itself}
+use Rattle.std.proofs.lemmas.Cmp.{tied_itself}
 use Rattle.std.proofs.lemmas.List.{get_or-map, length-map}
 use Rattle.std.proofs.lemmas.List.Sorted.{ranks_by, searchable_from_sorted, sorted_far}
 use Rattle.std.proofs.lemmas.Map.Made.{AllPairs-from_IsDistinct}
 use Rattle.std.proofs.lemmas.Option.{slice_get-get_or}
 use Rattle.flow_points.specs.Causes.{same_point}
 use Rattle.flow_points.specs.PointLists.{IsBefore, places_of, point_cmp}
-use Rattle.flow_points.specs.declared.steps.Point.{Point}
-use Rattle.flow_points.specs.declared.steps.CodePoint.{CodePoint}
-use Rattle.flow_points.proofs.SamePoint.{one_point, tells}
-
-pub total : IsTotalOrder point_cmp
-total = then_total (on_total (λ (p : Point). p.proc_entry) nat_cmp_total) (on_total (λ (p : Point). p.address) nat_cmp_total)
-
-compared : (a b : ℕ) → ((a < b) × (nat_cmp a b ≡ Less)) ⊎ (((a ≡ b) × (nat_cmp a b ≡ Equal)) ⊎ ((b < a) × (nat_cmp a b ≡ Greater)))
-compared a b =
-    elim (cases_lt a b) [
-      | inl h ↦ inl (h, sym (nat_cmp_is a b Less h))
-      | inr h ↦ elim (cases_lt b a) [
-        | inl k ↦ inr (inr (k, sym (nat_cmp_is a b Greater k)))
-        | inr k ↦ let e : a ≡ b = omega arith in inr (inl (e, sym (nat_cmp_is a b Equal e)))
-      ]
-    ]
-
-then_less : (o r : Ordering) → o ≡ Less → ordering_then o r ≡ Less
-then_less o r e = ap (λ (x : Ordering). ordering_then x r) e
-
-then_equal : (o r : Ordering) → o ≡ Equal → ordering_then o r ≡ r
-then_equal o r e = ap (λ (x : Ordering). ordering_then x r) e
-
-then_greater : (o r : Ordering) → o ≡ Greater → ordering_then o r ≡ Greater
-then_greater o r e = ap (λ (x : Ordering). ordering_then x r) e
-
-pub equal_is : (p q : Point) → point_cmp p q ≡ Equal → p ≡ q
-equal_is p q h =
-    elim (compared p.proc_entry q.proc_entry) [
-      | inl a ↦ let e = then_less _ (nat_cmp p.address q.address) a.1 in cc
-      | inr a ↦ elim a [
-        | inl b ↦ let e = then_equal _ (nat_cmp p.address q.address) b.1 in
-            elim (compared p.address q.address) [
-              | inl d ↦ cc
-              | inr d ↦ elim d [ inl f ↦ one_point p q b.0 f.0 | inr f ↦ cc ]
-            ]
-        | inr b ↦ let e = then_greater _ (nat_cmp p.address q.address) b.1 in cc
-      ]
-    ]
-
--- two points of which the second isn't less, and that differ
-before_of : (p q : Point) → is_lt (point_cmp q p) ≡ false → p ≢ q → IsBefore p q
-before_of p q h ne =
-    elim (compared q.proc_entry p.proc_entry) [
-      | inl a ↦ absurd (not_less _ h (then_less _ (nat_cmp q.address p.address) a.1))
-      | inr a ↦ elim a [
-        | inl b ↦ elim (compared q.address p.address) [
-          | inl d ↦ absurd (not_less _ h (then_equal _ (nat_cmp q.address p.address) b.1 ∙ d.1))
-          | inr d ↦ elim d [ inl f ↦ absurd (ne (one_point p q (sym b.0) (sym f.0))) | inr f ↦ inr (sym b.0, f.0) ]
-        ]
-        | inr b ↦ inl b.0
-      ]
-    ]
-  where
-    not_less : (o : Ordering) → is_lt o ≡ false → o ≡ Less → ⊥
-    not_less o e f = let g = ap is_lt f in cc
-
-behind_of : (p q : Point) → IsBefore p q → is_lt (point_cmp q p) ≡ false
-behind_of p q (inl h) = ap is_lt (then_greater _ (nat_cmp q.address p.address) (sym (nat_cmp_is q.proc_entry p.proc_entry Greater h)))
-behind_of p q (inr h) =
-    ap is_lt (then_equal _ (nat_cmp q.address p.address) (sym (nat_cmp_is q.proc_entry p.proc_entry Equal (sym h.0)))
-    ∙ sym (nat_cmp_is q.address p.address Greater h.1))
+use Rattle.flow_points.specs.declared.code_points.Point.{Point}
+use Rattle.flow_points.specs.declared.code_points.CodePoint.{CodePoint}
+use Rattle.flow_points.proofs.Comparing.{total, equal_is, before_of, behind_of}
+use Rattle.flow_points.proofs.SamePoint.{tells}
 
 pub ascending : (points : List CodePoint) → IsSorted point_cmp (places_of points) → IsDistinct same_point (places_of points)
     → AllPairs (λ c d. IsBefore c.point d.point) points

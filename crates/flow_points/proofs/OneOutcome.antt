@@ -1,11 +1,11 @@
 -- There is one outcome at an address.
-use Rattle.std.proofs.Common.{◌≡◌, ℕ, Option, None, Some, Result, refl, sym, subst}
+use Rattle.std.proofs.Common.{◌≡◌, ℕ, Option, None, Some, Result, Ok, refl, sym, subst}
 use Rattle.rv_decode.specs.Instructions.{Means}
 use Rattle.rv_decode.specs.declared.instructions.Instr.{Instr}
 use Rattle.rv_decode.specs.declared.instructions.Instr.TheVariants.{Auipc}
 use Rattle.rv_decode.proofs.Table.{one_instruction}
 use Rattle.flow_points.specs.Flows.{HasInstr, HasUpper, Judged, base_of, outside, unknown, known, prior}
-use Rattle.flow_points.specs.declared.steps.Flow.{Flow}
+use Rattle.flow_points.specs.declared.code_points.Flow.{Flow}
 use Rattle.flow_points.specs.declared.refusal.FlowRefusal.{FlowRefusal}
 
 -- two words that are fetched from one address are one
@@ -42,6 +42,9 @@ judged_once fetch a x y (known i u f m e) (known j v g k d) =
     let same = one_instr fetch a i j f g in
     let uppers = one_upper fetch a (base_of i) u v m (subst (λ (n : Instr). HasUpper fetch a (base_of n) v) (sym same) k) in
     cc
+
+pub same_flow : (f g : Flow) → (let x : Result Flow FlowRefusal = Ok f in let y : Result Flow FlowRefusal = Ok g in x ≡ y) → f ≡ g
+same_flow f g e = cc
 
 pub no_upper : (fetch : ℕ → Option ℕ) (a r w : ℕ) → fetch (prior a) ≡ Some w → ((i : Instr) → Means w i → ⊥) → HasUpper fetch a r None
 no_upper fetch a r w f none =

@@ -13,9 +13,9 @@ use Rattle.elf_image.specs.declared.image.Image.{Image}
 use Rattle.flow_points.specs.Walks.{FlowWalk, IsPoint, begin, onward, start, successors_of}
 use Rattle.flow_points.specs.Sites.{IsCode}
 use Rattle.flow_points.specs.PointLists.{FlowPoints, ArePointsOf, HasCode, IsBefore, entries_of, places_of}
-use Rattle.flow_points.specs.declared.steps.CodePoint.{CodePoint}
-use Rattle.flow_points.specs.declared.steps.Point.{Point}
-use Rattle.flow_points.proofs.Jumps.{from_map}
+use Rattle.flow_points.specs.declared.code_points.CodePoint.{CodePoint}
+use Rattle.flow_points.specs.declared.code_points.Point.{Point}
+use Rattle.flow_points.proofs.Lists.{from_map}
 use Rattle.flow_points.proofs.Ascent.{some_item}
 
 pub walk_ends : (image : Image) (points : FlowPoints) (p : Point) → ArePointsOf image points → IsPoint image p ↔ Contains (places_of points.points) p

@@ -1,23 +1,19 @@
 -- What the search for points keeps.
-use Rattle.std.proofs.Common.{◌≡◌, ◌≢◌, ℕ, ◌+◌, ◌<◌, List, [], ◌∷◌, ◌++◌, length, get_or, false, Option, Some, is_some, Result, Ok, Err, IfOk, OnOk, slice_get, All, Contains, refl, sym, ap, subst, ◌∙◌, arith, length-append}
-use Rattle.std.specs.List.{AllWithin, IsDistinct}
+use Rattle.std.proofs.Common.{◌≡◌, ◌≢◌, ℕ, List, [], ◌∷◌, ◌++◌, length, false, Option, is_some, Result, Ok, Err, OnOk, All, Contains, refl, sym, ap, subst, ◌∙◌, arith, length-append}
+use Rattle.std.specs.List.{IsDistinct}
 use Rattle.std.specs.Map.{keys_of, lookup}
-use Rattle.std.proofs.lemmas.List.{get_or_append_left}
-use Rattle.std.proofs.lemmas.List.Elements.{AllWithin-more, All-weaker, All-map, All-push, Contains-append_left, Contains-get_or, Contains-push}
+use Rattle.std.proofs.lemmas.List.Elements.{All-map, All-push, Contains-append_left, Contains-get_or, Contains-push}
 use Rattle.std.proofs.lemmas.List.Quantifiers.{all_pairs_push}
 use Rattle.std.proofs.lemmas.Map.Entries.{length-keys_of}
 use Rattle.std.proofs.lemmas.Map.Made.{AllPairs-from_IsDistinct}
 use Rattle.std.proofs.lemmas.Map.Views.{IsSome-lookup_from_Contains}
-use Rattle.std.proofs.lemmas.Option.{slice_get-get_or}
 use Rattle.flow_points.specs.Flows.{HasFlow}
 use Rattle.flow_points.specs.Walks.{FlowWalk, HasMoreThan, onward, successors_of}
-use Rattle.flow_points.specs.Sites.{Adds, AreSites, HasSite, HasSuccessors, IsSite}
+use Rattle.flow_points.specs.Sites.{Adds, AreSites, HasSite, IsSite}
 use Rattle.flow_points.specs.Causes.{same_point}
-use Rattle.flow_points.specs.declared.steps.Point.{Point}
-use Rattle.flow_points.specs.declared.steps.Site.{Site}
-use Rattle.flow_points.specs.declared.steps.CodePoint.{CodePoint}
-use Rattle.flow_points.specs.declared.steps.Flow.{Flow}
-use Rattle.flow_points.specs.declared.refusal.FlowRefusal.{FlowRefusal}
+use Rattle.flow_points.specs.declared.code_points.Point.{Point}
+use Rattle.flow_points.specs.declared.code_points.Site.{Site}
+use Rattle.flow_points.specs.declared.code_points.Flow.{Flow}
 use Rattle.flow_points.proofs.SamePoint.{laws, tells}
 use Rattle.flow_points.proofs.Lists.{all_one, all_two}
 
@@ -86,26 +82,3 @@ more_points fetch entry entries p are apart absent full walk =
           let found = IsSome-lookup_from_Contains laws p entries there in cc);
       more = omega (arith, length-append (keys_of entries) (p ∷ []), length-keys_of entries);
     }
-
--- where the flow goes on from all entries up to one more
-pub grown : (old new : List (Point × Site)) → ((p : Point) → HasSite old p → HasSite new p) → (e : Point × Site)
-    → HasSuccessors old (Some e) → HasSuccessors new (Some e)
-grown old new keeps e = by e.1.code
-  where
-    by : (r : Result CodePoint FlowRefusal) → IfOk r (λ c. All (HasSite old) (successors_of e.0.proc_entry c.flow))
-        → IfOk r (λ c. All (HasSite new) (successors_of e.0.proc_entry c.flow))
-    by (Ok c) h = All-weaker (HasSite old) (HasSite new) keeps (successors_of e.0.proc_entry c.flow) h
-    by (Err cause) h = tt
-
-pub closed_more : (old new more : List (Point × Site)) (at : ℕ) → new ≡ old ++ more → at < length old
-    → AllWithin (λ e. HasSuccessors old (Some e)) old 0 at → HasSuccessors new (slice_get old at)
-    → AllWithin (λ e. HasSuccessors new (Some e)) new 0 (at + 1)
-closed_more old new more at after lt closed there =
-    AllWithin-more (λ (e : Point × Site). HasSuccessors new (Some e)) new 0 at
-    (λ k d low below. subst (λ (e : Point × Site). HasSuccessors new (Some e)) (sym (same k d (omega arith)))
-    (grown old new (λ p. still_there old new more p after) (get_or old k d) (closed k d low below)))
-    (λ d. subst (λ (e : Point × Site). HasSuccessors new (Some e)) (sym (same at d lt))
-    (subst (λ (o : Option (Point × Site)). HasSuccessors new o) (slice_get-get_or old at d lt) there))
-  where
-    same : (k : ℕ) (d : Point × Site) → k < length old → get_or new k d ≡ get_or old k d
-    same k d below = ap (λ (xs : List (Point × Site)). get_or xs k d) after ∙ get_or_append_left old more d k below

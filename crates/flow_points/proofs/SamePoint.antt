@@ -3,7 +3,7 @@ use Rattle.std.proofs.Common.{◌≡◌, Bool, true, false, ◌&&◌, refl, sym,
 use Rattle.std.specs.Cmp.{IsEquivalence}
 use Rattle.std.specs.Bool.{Decides}
 use Rattle.flow_points.specs.Causes.{same_point}
-use Rattle.flow_points.specs.declared.steps.Point.{Point}
+use Rattle.flow_points.specs.declared.code_points.Point.{Point}
 
 both : (a b : Bool) → (a && b) ≡ true → (a ≡ true) × (b ≡ true)
 both true true e = (refl, refl)

@@ -6,10 +6,10 @@ use Rattle.rv_decode.specs.declared.instructions.Instr.{Instr}
 use Rattle.rv_decode.specs.declared.instructions.Instr.TheVariants.{Jalr}
 use Rattle.flow_points.specs.Flows.{HasFlow, HasInstr, HasUpper, IsSecondHalf, Judged, base_of, flow_of, known}
 use Rattle.flow_points.specs.Sites.{IsCode, IsSite}
-use Rattle.flow_points.specs.declared.steps.Flow.{Flow}
-use Rattle.flow_points.specs.declared.steps.Point.{Point}
-use Rattle.flow_points.specs.declared.steps.CodePoint.{CodePoint}
-use Rattle.flow_points.specs.declared.steps.Site.{Site}
+use Rattle.flow_points.specs.declared.code_points.Flow.{Flow}
+use Rattle.flow_points.specs.declared.code_points.Point.{Point}
+use Rattle.flow_points.specs.declared.code_points.CodePoint.{CodePoint}
+use Rattle.flow_points.specs.declared.code_points.Site.{Site}
 use Rattle.flow_points.specs.declared.refusal.FlowRefusal.{FlowRefusal}
 use Rattle.flow_points.proofs.OneOutcome.{one_instr, one_upper, one_word}
 

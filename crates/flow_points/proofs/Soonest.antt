@@ -1,51 +1,19 @@
 -- The soonest of a list of causes.
-use Rattle.std.proofs.Common.{◌≡◌, ◌⊎◌, ℕ, ◌+◌, ◌*◌, ◌<◌, ◌≤◌, Bool, true, false, List, [], ◌∷◌, ◌++◌, take, map, fold, Option, None, Some, IfSome, slice_get, All, Contains, refl, sym, ap, subst, ◌∙◌, inl, inr, arith, if◌then◌else◌, ◌||◌, ◌&&◌, eqb, ltb, leb, get_or}
-use Rattle.std.proofs.lemmas.Bool.Decides.{nat_tests}
+use Rattle.std.proofs.Common.{◌≡◌, ◌⊎◌, ℕ, ◌+◌, Bool, true, false, List, [], ◌∷◌, ◌++◌, take, map, fold, Option, None, Some, slice_get, All, Contains, refl, sym, ap, subst, ◌∙◌, inl, inr, arith, if◌then◌else◌}
 use Rattle.std.proofs.lemmas.List.{map-append, take_more}
 use Rattle.std.proofs.lemmas.List.Sums.{fold-append}
-use Rattle.std.proofs.lemmas.List.Elements.{All-cons, All-head, All-nil, All-tail, Contains-append_cases, Contains-append_right, Contains-get_or}
+use Rattle.std.proofs.lemmas.List.Elements.{All-cons, All-head, All-nil, All-tail, Contains-append_right, Contains-get_or}
 use Rattle.std.proofs.lemmas.Option.{get_or_from_slice_get, slice_get_within}
-use Rattle.flow_points.specs.Refusals.{number_of, place_of}
 use Rattle.flow_points.specs.Causes.{is_sooner, sooner}
 use Rattle.flow_points.specs.declared.refusal.FlowRefusal.{FlowRefusal}
+use Rattle.flow_points.proofs.Lists.{cons_cases}
+use Rattle.flow_points.proofs.Ranks.{NotBefore, sooner_rank, later_rank}
 
 pub fold_more : {A B X : Type 0} (f : B → A → B) (a : B) (g : X → A) (xs : List X) (i : ℕ) (x : X) → slice_get xs i ≡ Some x
     → fold f a (map g (take (i + 1) xs)) ≡ f (fold f a (map g (take i xs))) (g x)
 fold_more f a g xs i x e =
     let more = take_more xs i x (slice_get_within xs i x e) ∙ ap (λ y. take i xs ++ y ∷ []) (get_or_from_slice_get xs i x x e) in
     ap (λ ys. fold f a (map g ys)) more ∙ ap (fold f a) (map-append g (take i xs) (x ∷ [])) ∙ fold-append f a (map g (take i xs)) (g x ∷ [])
-
--- causes by address and then by number
-pub rank : FlowRefusal → ℕ
-rank c = 16 * place_of c + number_of c
-
-number_below : (c : FlowRefusal) → number_of c < 16
-number_below c = grind arith
-
-pub rank_place : (a b : FlowRefusal) → rank a ≤ rank b → place_of a ≤ place_of b
-unfolding rank
-rank_place a b h = omega (arith, number_below a, number_below b)
-
-pub rank_number : (a b : FlowRefusal) → rank a ≤ rank b → place_of b ≡ place_of a → number_of a ≤ number_of b
-unfolding rank
-rank_number a b h e = omega (arith, number_below a, number_below b)
-
-before : (p q m n : ℕ) → (ltb p q || (eqb p q && leb m n)) ≡ true → m < 16 → n < 16 → 16 * p + m ≤ 16 * q + n
-before p q m n e h k = grind (arith, nat_tests)
-
-behind : (p q m n : ℕ) → (ltb p q || (eqb p q && leb m n)) ≡ false → m < 16 → n < 16 → 16 * q + n ≤ 16 * p + m
-behind p q m n e h k = grind (arith, nat_tests)
-
-sooner_rank : (a b : FlowRefusal) → is_sooner a b ≡ true → rank a ≤ rank b
-unfolding rank
-sooner_rank a b e = before (place_of a) (place_of b) (number_of a) (number_of b) e (number_below a) (number_below b)
-
-later_rank : (a b : FlowRefusal) → is_sooner a b ≡ false → rank b ≤ rank a
-unfolding rank
-later_rank a b e = behind (place_of a) (place_of b) (number_of a) (number_of b) e (number_below a) (number_below b)
-
-abbrev pub NotBefore : FlowRefusal → Option FlowRefusal → Type 0
-NotBefore c o = IfSome o (λ b. rank c ≤ rank b)
 
 -- the sooner one is one of the two, and neither is before what isn't after it
 is_one : (a b : Option FlowRefusal) (c : FlowRefusal) → sooner a b ≡ Some c → (a ≡ Some c) ⊎ (b ≡ Some c)
@@ -74,12 +42,6 @@ no_sooner (Some a) (Some b) e = by (is_sooner a b) e
     by : (t : Bool) → (if t then Some a else Some b) ≡ None → (Some a ≡ None) × (Some b ≡ None)
     by true d = cc
     by false d = cc
-
-pub only : {X : Type 0} (x y : X) → Contains (x ∷ []) y → x ≡ y
-only x y k = let first : k.0 ≡ 0 = omega (arith, k.1) in subst (λ (n : ℕ). get_or (x ∷ []) n y ≡ y) first k.2
-
-pub cons_cases : {X : Type 0} (x : X) (xs : List X) (y : X) → Contains (x ∷ xs) y → (x ≡ y) ⊎ Contains xs y
-cons_cases x xs y h = elim (Contains-append_cases (x ∷ []) xs y h) [ inl k ↦ inl (only x y k) | inr k ↦ inr k ]
 
 pub soonest_none : (a : Option FlowRefusal) (os : List (Option FlowRefusal)) → fold sooner a os ≡ None → All (λ o. o ≡ None) (a ∷ os)
 soonest_none a [] e = All-cons (λ o. o ≡ None) a [] e (All-nil (λ o. o ≡ None))

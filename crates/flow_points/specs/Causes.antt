@@ -3,20 +3,21 @@
 --   same_point p q               whether p and q are one point
 --   site_of entries p            what there is at the point p, if it was found
 --   pair_cause entries p         the cause that p has where a jump goes to it: if it is a second half
+--   cause_in entries code        the cause of what there is at a point, or of a pair that it jumps into
 --   cause_of entries s           what is bad at a point, or a pair that it jumps into
 --   is_sooner a b                the cause a has a lower address than b, or the same and no greater number
 --   sooner a b                   the sooner one of two causes, where there is one
---   first_cause_of entries start the soonest of all
+--   first_cause_of entries start   the soonest of all
 --   codes_of entries             the code of the points that aren't bad, in order
 use Rattle.std.specs.Prelude.{◌==◌, nat_lt, nat_le, Bool, ◌&&◌, ◌||◌, List, map, fold, Option, None, Some, option_and_then, Result, Ok, Err, if◌then◌else◌}
 use Rattle.std.specs.List.{filter_map}
 use Rattle.std.specs.Map.{lookup}
 use Rattle.std.specs.Result.{result_ok}
 use Rattle.flow_points.specs.Walks.{jump_of}
-use Rattle.flow_points.specs.Refusals.{number_of, place_of}
-use Rattle.flow_points.specs.declared.steps.Point.{Point}
-use Rattle.flow_points.specs.declared.steps.CodePoint.{CodePoint}
-use Rattle.flow_points.specs.declared.steps.Site.{Site}
+use Rattle.flow_points.specs.Refusals.{number_of, address_of}
+use Rattle.flow_points.specs.declared.code_points.Point.{Point}
+use Rattle.flow_points.specs.declared.code_points.CodePoint.{CodePoint}
+use Rattle.flow_points.specs.declared.code_points.Site.{Site}
 use Rattle.flow_points.specs.declared.refusal.FlowRefusal.{FlowRefusal}
 use Rattle.flow_points.specs.declared.refusal.FlowRefusal.TheVariants.{IntoPair}
 
@@ -39,7 +40,7 @@ cause_of entries s = cause_in entries s.code
 
 abbrev pub is_sooner : FlowRefusal → FlowRefusal → Bool
 is_sooner a b =
-    nat_lt (place_of a) (place_of b) || (place_of a == place_of b && nat_le (number_of a) (number_of b))
+    nat_lt (address_of a) (address_of b) || (address_of a == address_of b && nat_le (number_of a) (number_of b))
 
 abbrev pub sooner : Option FlowRefusal → Option FlowRefusal → Option FlowRefusal
 sooner None b = b

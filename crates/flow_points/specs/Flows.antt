@@ -1,6 +1,6 @@
 -- The flow of an instruction: RISC-V Unprivileged ISA, "Control Transfer Instructions". Code is seen as
--- the words that can be fetched: `fetch a` is the word at the address a, none where its four bytes don't
--- lie in one executable segment. Addresses wrap at 2^64.
+-- the instruction words that can be fetched: `fetch a` is the one at the address a, none where its four
+-- bytes don't lie in one executable segment. Addresses wrap at 2^64.
 --
 --   plus a z                      the address z bytes behind a
 --   next a, prior a               the address of the instruction behind a, and of the one before it
@@ -13,8 +13,8 @@
 --   flow_of a upper instr         the flow of an instruction at a, or what is bad in it; upper is the
 --                                 field of the AUIPC whose pair it ends, if it ends one
 --   base_of instr                 the register whose address a JALR jumps to
---   HasInstr fetch a instr        the word at a stands for this instruction
---   IsFirstHalf fetch a r upper   the word before a stands for an AUIPC of r, which isn't zero
+--   HasInstr fetch a instr        the instruction word at a stands for this instruction
+--   IsFirstHalf fetch a r upper   the one before a stands for an AUIPC of r, which isn't zero
 --   HasUpper fetch a r upper      so it does, with the field upper; where there is none, it doesn't
 --   IsSecondHalf fetch a          at a stands a JALR, and before it an AUIPC of the JALR's base
 --   Judged fetch a outcome        the outcome at a: the flow of its instruction, or what is bad there
@@ -25,8 +25,8 @@ use Rattle.std.specs.Ordering.{int_eq}
 use Rattle.rv_decode.specs.Instructions.{Means}
 use Rattle.rv_decode.specs.declared.instructions.Instr.{Instr}
 use Rattle.rv_decode.specs.declared.instructions.Instr.TheVariants.{Auipc, Jal, Jalr, Branch as BranchInstr, Ebreak}
-use Rattle.flow_points.specs.declared.steps.Flow.{Flow}
-use Rattle.flow_points.specs.declared.steps.Flow.TheVariants.{Next, Jump, Branch, Call, Return, Halt}
+use Rattle.flow_points.specs.declared.code_points.Flow.{Flow}
+use Rattle.flow_points.specs.declared.code_points.Flow.TheVariants.{Next, Jump, Branch, Call, Return, Halt}
 use Rattle.flow_points.specs.declared.refusal.FlowRefusal.{FlowRefusal}
 use Rattle.flow_points.specs.declared.refusal.FlowRefusal.TheVariants.{OutsideCode, NoInstruction, OddLink, IndirectJump, MisalignedTarget}
 

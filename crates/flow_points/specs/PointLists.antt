@@ -16,8 +16,8 @@ use Rattle.elf_image.specs.Images.{code_word}
 use Rattle.elf_image.specs.declared.image.Image.{Image}
 use Rattle.flow_points.specs.Walks.{FlowWalk}
 use Rattle.flow_points.specs.Sites.{IsCode}
-use Rattle.flow_points.specs.declared.steps.Point.{Point}
-use Rattle.flow_points.specs.declared.steps.CodePoint.{CodePoint}
+use Rattle.flow_points.specs.declared.code_points.Point.{Point}
+use Rattle.flow_points.specs.declared.code_points.CodePoint.{CodePoint}
 
 pub record FlowPoints : Type 0 where
   pub entry : ℕ

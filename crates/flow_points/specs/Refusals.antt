@@ -1,6 +1,6 @@
 -- Why code is refused.
 --
---   place_of cause                   the address that a cause names
+--   address_of cause                 the address that a cause names
 --   number_of cause                  its number, in the order of the causes
 --   HasCause fetch entry p cause     the point p is bad for this cause: what is bad at its address, or a
 --                                    second half of a pair that is the start or that a jump goes to
@@ -14,19 +14,19 @@ use Rattle.elf_image.specs.Images.{code_word}
 use Rattle.elf_image.specs.declared.image.Image.{Image}
 use Rattle.flow_points.specs.Flows.{IsSecondHalf, Judged}
 use Rattle.flow_points.specs.Walks.{FlowWalk, HasMoreThan, IsEntered}
-use Rattle.flow_points.specs.declared.steps.Point.{Point}
+use Rattle.flow_points.specs.declared.code_points.Point.{Point}
 use Rattle.flow_points.specs.declared.refusal.FlowRefusal.{FlowRefusal}
 use Rattle.flow_points.specs.declared.refusal.FlowRefusal.TheVariants.{TooManyPoints, OutsideCode, NoInstruction, OddLink, IndirectJump, MisalignedTarget, IntoPair, Memory}
 
-abbrev pub place_of : FlowRefusal → ℕ
-place_of (TooManyPoints limit) = 0
-place_of (OutsideCode a) = a
-place_of (NoInstruction a word) = a
-place_of (OddLink a register) = a
-place_of (IndirectJump a register) = a
-place_of (MisalignedTarget a target) = a
-place_of (IntoPair a) = a
-place_of Memory = 0
+abbrev pub address_of : FlowRefusal → ℕ
+address_of (TooManyPoints limit) = 0
+address_of (OutsideCode a) = a
+address_of (NoInstruction a word) = a
+address_of (OddLink a register) = a
+address_of (IndirectJump a register) = a
+address_of (MisalignedTarget a target) = a
+address_of (IntoPair a) = a
+address_of Memory = 0
 
 abbrev pub number_of : FlowRefusal → ℕ
 number_of (TooManyPoints limit) = 1
@@ -52,9 +52,9 @@ pub record IsFirstCause (fetch : ℕ → Option ℕ) (entry : ℕ) (cause : Flow
   pub reached : FlowWalk fetch entry at
   pub bad : HasCause fetch entry at cause
   pub least_address : (p : Point) (other : FlowRefusal) → FlowWalk fetch entry p → HasCause fetch entry p other
-      → place_of cause ≤ place_of other
+      → address_of cause ≤ address_of other
   pub least_number : (p : Point) (other : FlowRefusal) → FlowWalk fetch entry p → HasCause fetch entry p other
-      → place_of other ≡ place_of cause → number_of cause ≤ number_of other
+      → address_of other ≡ address_of cause → number_of cause ≤ number_of other
 
 pub data IsRefusal (fetch : ℕ → Option ℕ) (entry : ℕ) (refusal : FlowRefusal) : Type 0 where
   too_many : HasMoreThan fetch entry 4096 → refusal ≡ TooManyPoints 4096 → IsRefusal fetch entry refusal

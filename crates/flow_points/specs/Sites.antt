@@ -2,13 +2,13 @@
 -- order in which they were found. No public contract cites these words.
 --
 --   auipc_field instr r             the field of an AUIPC with the destination r
---   IsCode fetch c                  the word, the instruction and the flow of c are those at its address
+--   IsCode fetch c                  the instruction word, the instruction and the flow of c are those at its address
 --   IsSite fetch p s                s is what there is at the point p
 --   HasSite entries p               the point p was found
 --   HasSuccessors entries found     so were the points where the flow goes on from this entry
 --   AreSites fetch entry entries    they are points, each with what there is at it, and not too many
 --   Adds fetch entry old new        new has more of them than old, behind those of old
---   IsStop fetch entry refusal      why the search may stop: want of memory, or too many points
+--   IsStop fetch entry refusal      why the search may stop: out of memory, or too many points
 --   AreAllSites fetch entry entries the start was found, and with each entry where the flow goes on from it
 use Rattle.std.specs.Prelude.{◌≡◌, ◌↔◌, ℕ, ◌≤◌, ◌==◌, IsTrue, List, ◌++◌, length, All, Contains, Option, None, Some, IfSome, Err, IfOk, IfErr, if◌then◌else◌}
 use Rattle.std.specs.Map.{keys_of}
@@ -17,9 +17,9 @@ use Rattle.rv_decode.specs.declared.instructions.Instr.{Instr}
 use Rattle.rv_decode.specs.declared.instructions.Instr.TheVariants.{Auipc}
 use Rattle.flow_points.specs.Flows.{HasFlow, IsSecondHalf, Judged}
 use Rattle.flow_points.specs.Walks.{FlowWalk, HasMoreThan, start, successors_of}
-use Rattle.flow_points.specs.declared.steps.Point.{Point}
-use Rattle.flow_points.specs.declared.steps.CodePoint.{CodePoint}
-use Rattle.flow_points.specs.declared.steps.Site.{Site}
+use Rattle.flow_points.specs.declared.code_points.Point.{Point}
+use Rattle.flow_points.specs.declared.code_points.CodePoint.{CodePoint}
+use Rattle.flow_points.specs.declared.code_points.Site.{Site}
 use Rattle.flow_points.specs.declared.refusal.FlowRefusal.{FlowRefusal}
 use Rattle.flow_points.specs.declared.refusal.FlowRefusal.TheVariants.{TooManyPoints, Memory}
 

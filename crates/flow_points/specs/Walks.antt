@@ -12,9 +12,9 @@ use Rattle.std.specs.Prelude.{◌≡◌, ◌≢◌, ℕ, ◌<◌, List, [], ◌�
 use Rattle.elf_image.specs.Images.{code_word}
 use Rattle.elf_image.specs.declared.image.Image.{Image}
 use Rattle.flow_points.specs.Flows.{HasFlow}
-use Rattle.flow_points.specs.declared.steps.Point.{Point}
-use Rattle.flow_points.specs.declared.steps.Flow.{Flow}
-use Rattle.flow_points.specs.declared.steps.Flow.TheVariants.{Next, Jump, Branch, Call, Return, Halt}
+use Rattle.flow_points.specs.declared.code_points.Point.{Point}
+use Rattle.flow_points.specs.declared.code_points.Flow.{Flow}
+use Rattle.flow_points.specs.declared.code_points.Flow.TheVariants.{Next, Jump, Branch, Call, Return, Halt}
 
 abbrev pub point : ℕ → ℕ → Point
 point p a = record { proc_entry = p; address = a }

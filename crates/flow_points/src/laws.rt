@@ -4,12 +4,12 @@ ghost use Rattle.std.specs.Prelude.{◌≡◌, ◌≢◌, ◌↔◌, ℕ, Contai
 ghost use Rattle.elf_image.specs.declared.image.Image.{Image};
 ghost use Rattle.std.specs.List.Sorted.{IsStrictlyIncreasing};
 ghost use Rattle.flow_points.specs.Walks.{IsPoint, start, successors_of};
-ghost use Rattle.flow_points.specs.Refusals.{IsBad, IsFlowRefusal, place_of};
+ghost use Rattle.flow_points.specs.Refusals.{IsBad, IsFlowRefusal, address_of};
 ghost use Rattle.flow_points.specs.declared.refusal.FlowRefusal.{FlowRefusal};
 ghost use Rattle.flow_points.specs.declared.refusal.FlowRefusal.TheVariants.{TooManyPoints};
 ghost use Rattle.flow_points.specs.PointLists.{FlowPoints, ArePointsOf, HasCode, entries_of, places_of};
-ghost use Rattle.flow_points.specs.declared.steps.CodePoint.{CodePoint};
-ghost use Rattle.flow_points.specs.declared.steps.Point.{Point};
+ghost use Rattle.flow_points.specs.declared.code_points.CodePoint.{CodePoint};
+ghost use Rattle.flow_points.specs.declared.code_points.Point.{Point};
 
 /// The points of an image are those at which a walk along the flow ends.
 pub fn points_are_walk_ends()
@@ -38,5 +38,5 @@ pub fn refusal_is_one()
 /// An image that isn't refused for the number of its points is refused at a bad one.
 pub fn refusal_names_a_bad_point()
     ensures { (image : Image) (refusal : FlowRefusal) → IsFlowRefusal image refusal → refusal ≢ TooManyPoints 4096 →
-        (p : Point) × IsBad image p × (p.address ≡ place_of refusal) }
+        (p : Point) × IsBad image p × (p.address ≡ address_of refusal) }
 {}

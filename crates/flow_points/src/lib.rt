@@ -12,19 +12,19 @@
 //! ```
 #![tactic(auto)]
 
+mod causes;
+mod code_points;
 mod flows;
 pub mod laws;
-mod least;
 mod points;
 mod recovery;
 mod refusal;
 mod sites;
-mod steps;
 #[cfg(test)]
 mod tests;
 mod walks;
 
+pub use code_points::{CodePoint, Flow, Point};
 pub use points::Points;
 pub use recovery::recover;
 pub use refusal::FlowRefusal;
-pub use steps::{CodePoint, Flow, Point};

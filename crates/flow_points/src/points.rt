@@ -5,7 +5,7 @@ ghost use Rattle.std.specs.List.Sorted.{IsBinarySearchResult, IsSearchInRange};
 ghost use Rattle.flow_points.specs.Walks.{point};
 ghost use Rattle.flow_points.specs.PointLists.{HasCode, places_of, point_cmp};
 
-use crate::steps::{CodePoint, Flow, Point};
+use crate::code_points::{CodePoint, Flow, Point};
 use rv_decode::Instr;
 use sqlite_items::Items;
 use std::marker::Model;
@@ -66,7 +66,7 @@ impl Points {
         self.code(i).instr
     }
 
-    /// The word at its address.
+    /// The instruction word at its address.
     pub fn word(&self, i: u32) -> u32
         requires { i < length self.now.points }
         ensures { IsSomeAnd (slice_get self.now.points i) (λ c. result ≡ c.word) }
@@ -80,6 +80,14 @@ impl Points {
         ensures { IsSomeAnd (slice_get self.now.points i) (λ c. result ≡ c.flow) }
     {
         self.code(i).flow
+    }
+
+    /// The point of this number with its word, its instruction and its flow.
+    pub fn code(&self, i: u32) -> CodePoint
+        requires { i < length self.now.points }
+        ensures { slice_get self.now.points i ≡ Some result }
+    {
+        self.points.as_slice()[i as usize]
     }
 
     /// The number of the point at an address in a procedure; None exactly where there is no such point.
@@ -116,13 +124,6 @@ impl Points {
         ensures { HasCode self.now }
     {
         let _ = &self.entry;
-    }
-
-    fn code(&self, i: u32) -> CodePoint
-        requires { i < length self.now.points }
-        ensures { slice_get self.now.points i ≡ Some result }
-    {
-        self.points.as_slice()[i as usize]
     }
 }
 

@@ -11,16 +11,16 @@ ghost use Rattle.flow_points.specs.Sites.{AreAllSites};
 ghost use Rattle.flow_points.specs.Causes.{codes_of, first_cause_of, same_point};
 ghost use Rattle.flow_points.specs.PointLists.{ArePointsOf, entries_of, point_cmp};
 
-use crate::least::first_cause;
+use crate::causes::first_cause;
+use crate::code_points::{CodePoint, Point};
 use crate::points::Points;
 use crate::refusal::FlowRefusal;
-use crate::steps::{CodePoint, Point};
 use crate::walks::{Sites, entry_at, reached};
 use elf_image::Image;
 use sqlite_items::Items;
 use std::alloc::{AllocError, Global};
 
-/// The points of an image, or why its code is refused. `Memory` comes for want of memory alone.
+/// The points of an image, or why its code is refused. `Memory` comes only where it is out of memory.
 pub fn recover(alloc: Global, image: &Image) -> Result<Points, FlowRefusal>
     ensures points { IfOk result (ArePointsOf image.now) }
     ensures accepted { OnOk result ((refusal : FlowRefusal) → IsFlowRefusal image.now refusal → ⊥) }

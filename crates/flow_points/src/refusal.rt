@@ -1,5 +1,6 @@
 //! Why code is refused.
 
+use rv_decode::register_name;
 use thiserror::Error;
 
 /// Why the points of an image aren't given. Each but the first and the last names the address of a bad
@@ -12,14 +13,14 @@ pub enum FlowRefusal {
     /// The four bytes at the address don't lie in one executable segment.
     #[error("OutsideCode at {0:#x}")]
     OutsideCode(u64),
-    /// The word is no instruction.
+    /// The instruction word, which stands for no instruction.
     #[error("NoInstruction {1:08x} at {0:#x}")]
     NoInstruction(u64, u32),
     /// A jump that links through this register, which is neither zero nor ra.
-    #[error("OddLink {1} at {0:#x}")]
+    #[error("OddLink {register} at {0:#x}", register = name(.1))]
     OddLink(u64, u8),
     /// A jump to the address in this register, which is no return and no second half of a pair.
-    #[error("IndirectJump {1} at {0:#x}")]
+    #[error("IndirectJump {register} at {0:#x}", register = name(.1))]
     IndirectJump(u64, u8),
     /// A jump, branch or call to this target, which is no multiple of 4.
     #[error("MisalignedTarget {1:#x} at {0:#x}")]
@@ -27,7 +28,16 @@ pub enum FlowRefusal {
     /// The second half of a pair, where the start is, or where a jump, a branch or a call goes.
     #[error("IntoPair at {0:#x}")]
     IntoPair(u64),
-    /// Want of memory.
+    /// Out of memory.
     #[error("out of memory")]
     Memory,
+}
+
+// The name of a register. A refusal of `recover` names none but those.
+fn name(register: &u8) -> &'static str {
+    if *register < 32 {
+        register_name(*register)
+    } else {
+        "none"
+    }
 }

@@ -5,9 +5,9 @@ ghost use Rattle.elf_image.specs.Images.{code_word};
 ghost use Rattle.flow_points.specs.Flows.{HasUpper};
 ghost use Rattle.flow_points.specs.Sites.{IsSite, auipc_field};
 
+use crate::code_points::{CodePoint, Point, Site};
 use crate::flows::{base_of, flow_of, prior};
 use crate::refusal::FlowRefusal;
-use crate::steps::{CodePoint, Point, Site};
 use elf_image::Image;
 use rv_decode::{Instr, decode};
 

@@ -114,6 +114,7 @@ fn code_of_points(rt: HostRuntime) -> Result<(), Fail> {
     }
     assert_eq!(rt; points.word(1), 0x00c080e7);
     assert_eq!(rt; points.instr(2), rv_decode::Instr::Ebreak);
+    assert_eq!(rt; points.code(3).word, RETURN);
     assert_eq!(rt; points.procedures(), [0x10078, 0x10084].as_slice());
     assert_eq!(rt; points.entry(), 0x10078);
     Ok(())
@@ -122,36 +123,57 @@ fn code_of_points(rt: HostRuntime) -> Result<(), Fail> {
 #[test]
 fn refusals(rt: HostRuntime) -> Result<(), Fail> {
     let alloc = rt.alloc();
-    let files: [(&[u32], FlowRefusal); 8] = [
+    let files: [(&[u32], FlowRefusal, &str); 8] = [
         // jal ra,12; jalr zero,0(t0); ebreak; jalr zero,0(t1)
         (
             &[0x00c000ef, 0x00028067, EBREAK, 0x00030067],
             FlowRefusal::IndirectJump(0x1007c, 5),
+            "IndirectJump t0 at 0x1007c",
         ),
         // beq a0,zero,8 before a pair
         (
             &[0x00050463, 0x00000097, 0x00c080e7, EBREAK, RETURN],
             FlowRefusal::IntoPair(0x10080),
+            "IntoPair at 0x10080",
         ),
         // jal t0,8
-        (&[0x008002ef], FlowRefusal::OddLink(0x10078, 5)),
+        (
+            &[0x008002ef],
+            FlowRefusal::OddLink(0x10078, 5),
+            "OddLink t0 at 0x10078",
+        ),
         // jal zero,2
         (
             &[0x0020006f],
             FlowRefusal::MisalignedTarget(0x10078, 0x1007a),
+            "MisalignedTarget 0x1007a at 0x10078",
         ),
-        (&[0], FlowRefusal::NoInstruction(0x10078, 0)),
+        (
+            &[0],
+            FlowRefusal::NoInstruction(0x10078, 0),
+            "NoInstruction 00000000 at 0x10078",
+        ),
         // auipc ra,0x0; jal zero,4; jalr zero,12(ra): an AUIPC that doesn't stand before the JALR
         (
             &[0x00000097, 0x0040006f, 0x00c08067],
             FlowRefusal::IndirectJump(0x10080, 1),
+            "IndirectJump ra at 0x10080",
         ),
         // jalr zero,0(zero)
-        (&[0x00000067], FlowRefusal::IndirectJump(0x10078, 0)),
-        (&[NOP], FlowRefusal::OutsideCode(0x1007c)),
+        (
+            &[0x00000067],
+            FlowRefusal::IndirectJump(0x10078, 0),
+            "IndirectJump zero at 0x10078",
+        ),
+        (
+            &[NOP],
+            FlowRefusal::OutsideCode(0x1007c),
+            "OutsideCode at 0x1007c",
+        ),
     ];
-    for (words, refusal) in files {
+    for (words, refusal, text) in files {
         assert_eq!(rt; points_of(alloc, words)?.err(), Some(refusal));
+        assert_eq!(rt; format!(in alloc; "{refusal}")?.as_str(), text);
     }
     let most = points_of(alloc, &straight(alloc, 4095, EBREAK)?)??;
     assert_eq!(rt; most.count(), 4096);

@@ -6,9 +6,9 @@ ghost use Rattle.flow_points.specs.Flows.{HasFlow};
 ghost use Rattle.flow_points.specs.Walks.{FlowWalk, point, successors_of};
 ghost use Rattle.flow_points.specs.Sites.{AreSites, AreAllSites, Adds, HasSuccessors, HasSite, IsStop};
 
+use crate::code_points::{Flow, Point, Site};
 use crate::refusal::FlowRefusal;
 use crate::sites::site_at;
-use crate::steps::{Flow, Point, Site};
 use elf_image::Image;
 use indexmap::IndexMap;
 use std::alloc::Global;
@@ -18,8 +18,8 @@ pub type Sites = IndexMap<Point, Site>;
 
 const MOST_POINTS: usize = 4096;
 
-/// All points that are reached, with what there is at each. It stops for want of memory, or where there
-/// are more points than the limit.
+/// All points that are reached, with what there is at each. It stops where it is out of memory, or where
+/// there are more points than the limit.
 pub fn reached(alloc: Global, image: &Image) -> Result<Sites, FlowRefusal>
     ensures all { IfOk result (λ sites. AreAllSites (code_word image.now) image.now.entry sites.entries) }
     ensures stop { IfErr result (IsStop (code_word image.now) image.now.entry) }

@@ -5,14 +5,11 @@ use Rattle.flow_points.specs.Flows.{HasFlow}
 use Rattle.flow_points.specs.Walks.{FlowWalk, begin as begin_flow, onward as onward_flow, point, successors_of}
 use Rattle.flow_points.specs.Sites.{IsCode}
 use Rattle.flow_points.specs.PointLists.{FlowPoints, HasCode}
-use Rattle.flow_points.specs.declared.steps.Point.{Point}
-use Rattle.flow_points.specs.declared.steps.Flow.{Flow}
-use Rattle.flow_points.specs.declared.steps.Flow.TheVariants.{Next, Jump, Branch, Call, Return, Halt}
-use Rattle.flow_points.specs.declared.steps.CodePoint.{CodePoint}
-use Rattle.flow_points.proofs.AllReached.{same_flow}
-use Rattle.flow_points.proofs.Jumps.{from_map}
-use Rattle.flow_points.proofs.OneOutcome.{judged_once}
-use Rattle.flow_points.proofs.Soonest.{cons_cases}
+use Rattle.flow_points.specs.declared.code_points.Point.{Point}
+use Rattle.flow_points.specs.declared.code_points.Flow.{Flow}
+use Rattle.flow_points.specs.declared.code_points.Flow.TheVariants.{Next, Jump, Branch, Call, Return, Halt}
+use Rattle.flow_points.specs.declared.code_points.CodePoint.{CodePoint}
+use Rattle.flow_points.proofs.Cited.{cons_cases, from_map, judged_once, same_flow}
 use Rattle.frame_offsets.specs.Frames.{FrameWalk, begin, goes_on}
 use Rattle.frame_offsets.proofs.Walking.{extended}
 

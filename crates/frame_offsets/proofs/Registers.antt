@@ -4,8 +4,8 @@ use Rattle.rv_decode.specs.Instructions.{IsWellFormed}
 use Rattle.rv_decode.specs.declared.instructions.Instr.{Instr}
 use Rattle.rv_decode.specs.declared.instructions.Instr.TheVariants.{Imm}
 use Rattle.rv_decode.specs.declared.instructions.ImmOp.TheVariants.{Addi}
-use Rattle.flow_points.specs.declared.steps.Flow.{Flow}
-use Rattle.flow_points.specs.declared.steps.Flow.TheVariants.{Call}
+use Rattle.flow_points.specs.declared.code_points.Flow.{Flow}
+use Rattle.flow_points.specs.declared.code_points.Flow.TheVariants.{Call}
 use Rattle.frame_offsets.specs.Frames.{kept_unless, source_in, source_of, written_by}
 
 kept_is : (o : Option ℕ) (r : ℕ) (s : ℕ × ℤ) → kept_unless o r ≡ Some s → s.0 ≡ r

@@ -5,13 +5,13 @@ use Rattle.std.proofs.lemmas.List.Elements.{All-contains}
 use Rattle.std.proofs.lemmas.Option.{slice_get-get_or, slice_get_within}
 use Rattle.flow_points.specs.Walks.{point}
 use Rattle.flow_points.specs.PointLists.{FlowPoints, HasCode}
-use Rattle.flow_points.specs.declared.steps.Point.{Point}
-use Rattle.flow_points.specs.declared.steps.CodePoint.{CodePoint}
-use Rattle.flow_points.proofs.Lists.{item_there}
+use Rattle.flow_points.specs.declared.code_points.Point.{Point}
+use Rattle.flow_points.specs.declared.code_points.CodePoint.{CodePoint}
+use Rattle.flow_points.proofs.Cited.{item_there}
 use Rattle.frame_offsets.specs.Frames.{AreOffsets, FrameWalk, IsOffset, at_entry, begin, goes_on, offsets_after, onward, source_of}
-use Rattle.frame_offsets.specs.Slots.{AreClosedBelow, AreJustified, IsClosedAt, IsJustified, IsPassedOn, entry_slot, known, one, slot_at, two}
-use Rattle.frame_offsets.specs.declared.slot.Slot.{Slot}
-use Rattle.frame_offsets.specs.declared.slot.Slot.TheVariants.{Unmet, Offset, Nothing}
+use Rattle.frame_offsets.specs.Tables.{AreClosedBelow, AreJustified, IsClosedAt, IsJustified, IsPassedOn, known_at_entry, offset_known, one, known_at, two}
+use Rattle.frame_offsets.specs.declared.known.Known.{Known}
+use Rattle.frame_offsets.specs.declared.known.Known.TheVariants.{Unmet, Offset, Nothing}
 use Rattle.frame_offsets.proofs.EachWalked.{has_walk}
 use Rattle.frame_offsets.proofs.Walking.{walk_proc, walk_there, well_formed}
 use Rattle.frame_offsets.proofs.Covering.{Covers, entry_covers, knows_covers, passed_covers}
@@ -20,19 +20,19 @@ use Rattle.frame_offsets.proofs.Registers.{source_within}
 numbered : (points : List CodePoint) (c : CodePoint) → Contains points c → (k : ℕ) × (slice_get points k ≡ Some c)
 numbered points c at = (at.0, slice_get-get_or points at.0 c at.1 ∙ ap Some at.2)
 
-module _ (points : FlowPoints) (table : List Slot) (has : HasCode points)
+module _ (points : FlowPoints) (table : List Known) (has : HasCode points)
     (closed : AreClosedBelow points.points table (length points.points)) where
   closed_at : (i : ℕ) (c : CodePoint) → slice_get points.points i ≡ Some c → IsClosedAt points.points table i c
   closed_at i c at = closed i c (slice_get_within points.points i c at) at
 
-  -- every walk ends with what the slots allow
+  -- what is known allows the end of every walk
   covered : (p : ℕ) (walk : List CodePoint) (c : CodePoint) → FrameWalk points.points p walk c → (i : ℕ) → slice_get points.points i ≡ Some c
-      → (r : ℕ) → r < 32 → Covers (slot_at table i r) (offsets_after walk r)
+      → (r : ℕ) → r < 32 → Covers (known_at table i r) (offsets_after walk r)
   covered p walk c (begin w d e there is) i at r lt =
       let proc = ap (λ (q : Point). q.proc_entry) is in
       let entry = is ∙ (λ k. point (sym proc k) (sym proc k)) in
-      subst (λ (x : List CodePoint). Covers (slot_at table i r) (offsets_after x r)) (sym e)
-      (knows_covers (slot_at table i r) (entry_slot r) (at_entry r) ((closed_at i d at).opened entry r lt) (entry_covers r))
+      subst (λ (x : List CodePoint). Covers (known_at table i r) (offsets_after x r)) (sym e)
+      (knows_covers (known_at table i r) (known_at_entry r) (at_entry r) ((closed_at i d at).opened entry r lt) (entry_covers r))
   covered p walk c (onward w earlier from to before e there goes) i at r lt =
       let found = numbered points.points from (walk_there points.points p earlier from before) in
       let same = walk_proc points.points p earlier from before in
@@ -40,28 +40,28 @@ module _ (points : FlowPoints) (table : List Slot) (has : HasCode points)
       let passed_on = All-contains (IsPassedOn points.points table found.0) (goes_on from.point.proc_entry from.flow) to.point
       (closed_at found.0 from found.1).passed_on next in
       let knows = passed_on i to at refl from found.1 r lt in
-      subst (λ (x : List CodePoint). Covers (slot_at table i r) (offsets_after x r)) (sym e)
-      (knows_covers (slot_at table i r) _ (offsets_after (from ∷ earlier) r) knows
-      (passed_covers (source_of from.instr from.flow r) (slot_at table found.0) (offsets_after earlier)
+      subst (λ (x : List CodePoint). Covers (known_at table i r) (offsets_after x r)) (sym e)
+      (knows_covers (known_at table i r) _ (offsets_after (from ∷ earlier) r) knows
+      (passed_covers (source_of from.instr from.flow r) (known_at table found.0) (offsets_after earlier)
       (λ q below. covered p earlier from before found.0 found.1 q below)
       (λ s is. source_within from.instr from.flow r s (well_formed points found.0 from has found.1) lt is)))
 
-  exact_slot : (c : CodePoint) (r : ℕ) (s : Slot) → Contains points.points c → IsJustified points.points c r s
+  exact_known : (c : CodePoint) (r : ℕ) (s : Known) → Contains points.points c → IsJustified points.points c r s
       → ((walk : List CodePoint) → FrameWalk points.points c.point.proc_entry walk c → Covers s (offsets_after walk r))
-      → IsOffset points.points c r (known s)
-  exact_slot c r Unmet there is covers = λ o h. let walk = has_walk points c has there in covers walk.0 walk.1
-  exact_slot c r (Offset o) there is covers = covers
-  exact_slot c r Nothing there (one walk walked none) covers = λ o h. let some = h walk walked in cc
-  exact_slot c r Nothing there (two v w m n walked other is is' apart) covers =
+      → IsOffset points.points c r (offset_known s)
+  exact_known c r Unmet there is covers = λ o h. let walk = has_walk points c has there in covers walk.0 walk.1
+  exact_known c r (Offset o) there is covers = covers
+  exact_known c r Nothing there (one walk walked none) covers = λ o h. let some = h walk walked in cc
+  exact_known c r Nothing there (two v w m n walked other is is' apart) covers =
       λ o h. let first = h v walked in let second = h w other in apart (cc)
 
-  pub settled : AreJustified points.points table → AreOffsets points.points (map known table)
+  pub settled : AreJustified points.points table → AreOffsets points.points (map offset_known table)
   settled are =
       record {
-        size = length-map table known ∙ are.size;
+        size = length-map table offset_known ∙ are.size;
         exact = λ i c r at lt.
             let within : 32 * i + r < length table = (let below = slice_get_within points.points i c at in omega (arith, are.size)) in
-            subst (IsOffset points.points c r) (sym (get_or-map known table (32 * i + r) Unmet None within))
-            (exact_slot c r (slot_at table i r) (item_there points.points i c at) (are.each i c r at lt)
+            subst (IsOffset points.points c r) (sym (get_or-map offset_known table (32 * i + r) Unmet None within))
+            (exact_known c r (known_at table i r) (item_there points.points i c at) (are.each i c r at lt)
             (λ walk walked. covered c.point.proc_entry walk c walked i at r lt));
       }

@@ -10,11 +10,11 @@ use Rattle.flow_points.specs.Flows.{plus}
 use Rattle.flow_points.specs.Walks.{point}
 use Rattle.flow_points.specs.Sites.{IsCode}
 use Rattle.flow_points.specs.PointLists.{FlowPoints, HasCode, IsBefore}
-use Rattle.flow_points.specs.declared.steps.Point.{Point}
-use Rattle.flow_points.specs.declared.steps.Flow.{Flow}
-use Rattle.flow_points.specs.declared.steps.Flow.TheVariants.{Next, Jump, Branch, Call, Return, Halt}
-use Rattle.flow_points.specs.declared.steps.CodePoint.{CodePoint}
-use Rattle.flow_points.proofs.Lists.{all_one, all_two, item_there}
+use Rattle.flow_points.specs.declared.code_points.Point.{Point}
+use Rattle.flow_points.specs.declared.code_points.Flow.{Flow}
+use Rattle.flow_points.specs.declared.code_points.Flow.TheVariants.{Next, Jump, Branch, Call, Return, Halt}
+use Rattle.flow_points.specs.declared.code_points.CodePoint.{CodePoint}
+use Rattle.flow_points.proofs.Cited.{all_one, all_two, item_there}
 use Rattle.frame_offsets.specs.Frames.{FrameWalk, at_entry, begin, goes_on, moved, offsets_after, onward, source_of}
 
 pub get_some : {X : Type 0} (o : Option X) (P : X → Type 0) → IsSomeAnd o P → (x : X) × (o ≡ Some x) × P x

@@ -2,6 +2,7 @@
 -- procedure's entry plus the offset, wrapping at 2^64. Registers are numbers; zero is 0, sp is 2, a0 is 10.
 --
 --   written_by instr            the register that an instruction writes; ECALL writes a0
+--   kept_unless written r       r itself with nothing added, unless it is the register that is written
 --   source_in instr r           the register whose offset r has after an instruction, and what is added to
 --                               it: only ADDI moves an offset, and each other write takes r's away
 --   source_of instr flow r      the same with the flow: a call keeps the offset of sp and takes the others,
@@ -24,10 +25,10 @@ use Rattle.rv_decode.specs.declared.instructions.ImmOp.TheVariants.{Addi}
 use Rattle.flow_points.specs.Flows.{plus}
 use Rattle.flow_points.specs.Walks.{point}
 use Rattle.flow_points.specs.PointLists.{FlowPoints}
-use Rattle.flow_points.specs.declared.steps.Point.{Point}
-use Rattle.flow_points.specs.declared.steps.Flow.{Flow}
-use Rattle.flow_points.specs.declared.steps.Flow.TheVariants.{Next, Jump, Branch, Call, Return, Halt}
-use Rattle.flow_points.specs.declared.steps.CodePoint.{CodePoint}
+use Rattle.flow_points.specs.declared.code_points.Point.{Point}
+use Rattle.flow_points.specs.declared.code_points.Flow.{Flow}
+use Rattle.flow_points.specs.declared.code_points.Flow.TheVariants.{Next, Jump, Branch, Call, Return, Halt}
+use Rattle.flow_points.specs.declared.code_points.CodePoint.{CodePoint}
 
 abbrev pub written_by : Instr → Option ℕ
 written_by (Lui rd imm) = Some rd

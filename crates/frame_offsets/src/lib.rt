@@ -13,8 +13,8 @@
 
 mod compute;
 mod frame;
+mod known;
 mod settle;
-mod slot;
 mod sources;
 mod table;
 #[cfg(test)]
@@ -23,3 +23,7 @@ mod visit;
 
 pub use compute::offsets;
 pub use frame::Offsets;
+
+/// Out of memory.
+#[derive(Clone, Copy, Debug, PartialEq, Eq)]
+pub struct Memory;

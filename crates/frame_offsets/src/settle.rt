@@ -1,15 +1,15 @@
 //! Sweeps over all points until nothing changes.
 
 ghost use Rattle.std.specs.Prelude.{◌≡◌, false, length};
-ghost use Rattle.frame_offsets.specs.Slots.{AreClosedBelow, AreJustified, Changes};
+ghost use Rattle.frame_offsets.specs.Tables.{AreClosedBelow, AreJustified, Changes};
 
-use crate::slot::Slot;
+use crate::known::Known;
 use crate::table::either;
 use crate::visit::visit;
 use flow_points::Points;
 
-/// Visits the points until none changes a slot.
-pub fn settle(table: &mut [Slot], points: &Points)
+/// Visits the points until none changes the table.
+pub fn settle(table: &mut [Known], points: &Points)
     requires { AreJustified points.now.points table.old }
     ensures justified { AreJustified points.now.points table.new }
     ensures closed { AreClosedBelow points.now.points table.new (length points.now.points) }
@@ -20,7 +20,7 @@ pub fn settle(table: &mut [Slot], points: &Points)
     }
 }
 
-fn sweep(table: &mut [Slot], points: &Points) -> bool
+fn sweep(table: &mut [Known], points: &Points) -> bool
     requires { AreJustified points.now.points table.old }
     ensures changes { Changes points.now.points table.old table.new result }
     ensures closed { result ≡ false → AreClosedBelow points.now.points table.new (length points.now.points) }

@@ -1,46 +1,47 @@
-//! The table of slots: for each point in turn those of the 32 registers.
+//! The table of what is known: for each point in turn, of each of the 32 registers.
 
 ghost use Rattle.std.specs.Prelude.{◌≡◌, ◌+◌, ◌*◌, ◌<◌, ◌≤◌, ◌||◌, false, length, slice_set, slice_index_or, IfSome, if◌then◌else◌};
-ghost use Rattle.frame_offsets.specs.Slots.{Knows, entry_slot, joined, lost, moved_slot, passed, slot_at, weight_of};
-ghost use Rattle.frame_offsets.specs.declared.slot.Slot.TheVariants.{Unmet};
+ghost use Rattle.frame_offsets.specs.Tables.{Knows, known_at_entry, joined, lost, known_moved, passed, known_at, weight_of};
+ghost use Rattle.frame_offsets.specs.declared.known.Known.TheVariants.{Unmet};
 
-use crate::slot::Slot;
+use crate::known::Known;
 
 pub const REGISTERS: usize = 32;
 
-/// Joins a slot with what else is known of it, and says whether it changed.
-pub fn raise(table: &mut [Slot], at: usize, other: Slot) -> bool
+/// Joins what is known at a place of the table with what else is known there, and says whether it
+/// changed.
+pub fn raise(table: &mut [Known], at: usize, other: Known) -> bool
     requires { at < length table.old }
     ensures after { table.new ≡ slice_set table.old at (joined (slice_index_or table.old at Unmet) other) }
     ensures fell { weight_of table.new + (if result then 1 else 0) ≤ weight_of table.old }
     ensures still { result ≡ false → Knows (slice_index_or table.old at Unmet) other }
 {
-    let slot = joined(table[at], other);
-    let rose = slot != table[at];
-    table[at] = slot;
+    let both = joined(table[at], other);
+    let rose = both != table[at];
+    table[at] = both;
     rose
 }
 
-/// What an instruction at a point leaves in a register with this source.
-pub fn passed(table: &[Slot], from: usize, source: Option<(u8, i32)>) -> Slot
+/// What is known behind an instruction of a register with this source.
+pub fn passed(table: &[Known], from: usize, source: Option<(u8, i32)>) -> Known
     requires room { 32 * from + 32 ≤ length table.now }
     requires within { IfSome source (λ s. s.0 < 32) }
-    ensures { result ≡ passed source (slot_at table.now from) }
+    ensures { result ≡ passed source (known_at table.now from) }
 {
     match source {
-        Some((register, added)) => moved_slot(added, table[REGISTERS * from + register as usize]),
+        Some((register, added)) => known_moved(added, table[REGISTERS * from + register as usize]),
         None => lost(table[REGISTERS * from]),
     }
 }
 
-/// The slot of a register at an entry.
-pub fn entry_slot(register: u8) -> Slot
-    ensures { result ≡ entry_slot register }
+/// What is known of a register at an entry.
+pub fn known_at_entry(register: u8) -> Known
+    ensures { result ≡ known_at_entry register }
 {
     if register == 2 {
-        Slot::Offset(0)
+        Known::Offset(0)
     } else {
-        Slot::Nothing
+        Known::Nothing
     }
 }
 
@@ -50,30 +51,30 @@ pub fn either(a: bool, b: bool) -> bool
     a || b
 }
 
-fn moved_slot(added: i32, slot: Slot) -> Slot
-    ensures { result ≡ moved_slot added slot }
+fn known_moved(added: i32, known: Known) -> Known
+    ensures { result ≡ known_moved added known }
 {
-    match slot {
-        Slot::Offset(offset) => Slot::Offset(offset.wrapping_add_signed(i64::from(added))),
-        _ => slot,
+    match known {
+        Known::Offset(offset) => Known::Offset(offset.wrapping_add_signed(i64::from(added))),
+        _ => known,
     }
 }
 
-fn lost(slot: Slot) -> Slot
-    ensures { result ≡ lost slot }
+fn lost(known: Known) -> Known
+    ensures { result ≡ lost known }
 {
-    match slot {
-        Slot::Unmet => Slot::Unmet,
-        _ => Slot::Nothing,
+    match known {
+        Known::Unmet => Known::Unmet,
+        _ => Known::Nothing,
     }
 }
 
-fn joined(a: Slot, b: Slot) -> Slot
+fn joined(a: Known, b: Known) -> Known
     ensures { result ≡ joined a b }
 {
     match (a, b) {
-        (Slot::Unmet, other) | (other, Slot::Unmet) => other,
-        (Slot::Offset(offset), Slot::Offset(other)) if offset == other => a,
-        _ => Slot::Nothing,
+        (Known::Unmet, other) | (other, Known::Unmet) => other,
+        (Known::Offset(offset), Known::Offset(other)) if offset == other => a,
+        _ => Known::Nothing,
     }
 }

@@ -126,7 +126,7 @@ fn offsets_of_all_walks(rt: HostRuntime) -> Result<(), Fail> {
     ];
     for (words, expected) in files {
         let points = points_of(alloc, words)?;
-        let offsets = offsets(alloc, &points)?;
+        let offsets = offsets(alloc, &points).ok().ok_or("memory")?;
         for (place, register, offset) in expected {
             let register = *register % 32;
             assert_eq!(rt;

@@ -2,18 +2,18 @@
 
 ghost use Rattle.std.specs.Prelude.{◌≡◌, ◌<◌, Some, false, length, slice_get, Contains, All, IsSomeAnd};
 ghost use Rattle.flow_points.specs.Walks.{point};
-ghost use Rattle.flow_points.specs.declared.steps.CodePoint.{CodePoint};
+ghost use Rattle.flow_points.specs.declared.code_points.CodePoint.{CodePoint};
 ghost use Rattle.frame_offsets.specs.Frames.{goes_on};
-ghost use Rattle.frame_offsets.specs.Slots.{AreJustified, Changes, IsClosedAt, IsOpened, IsPassed, IsPassedOn};
+ghost use Rattle.frame_offsets.specs.Tables.{AreJustified, Changes, IsClosedAt, IsOpened, IsPassed, IsPassedOn};
 
-use crate::slot::Slot;
+use crate::known::Known;
 use crate::sources::source_of;
-use crate::table::{REGISTERS, either, entry_slot, passed, raise};
+use crate::table::{REGISTERS, either, known_at_entry, passed, raise};
 use flow_points::{Flow, Points};
 
 /// Joins what is known at a point, if it is an entry, and at the points behind it with what this point
 /// says. It answers whether something changed.
-pub fn visit(table: &mut [Slot], points: &Points, i: u32) -> bool
+pub fn visit(table: &mut [Known], points: &Points, i: u32) -> bool
     requires number { i < length points.now.points }
     requires justified { AreJustified points.now.points table.old }
     ensures changes { Changes points.now.points table.old table.new result }
@@ -25,8 +25,8 @@ pub fn visit(table: &mut [Slot], points: &Points, i: u32) -> bool
     either(opened, passed)
 }
 
-// Joins the slots of a point, if it is an entry, with what there is at it.
-fn open(table: &mut [Slot], points: &Points, i: u32) -> bool
+// Joins what is known at a point, if it is an entry, with what is known at entries.
+fn open(table: &mut [Known], points: &Points, i: u32) -> bool
     requires number { i < length points.now.points }
     requires justified { AreJustified points.now.points table.old }
     ensures changes { Changes points.now.points table.old table.new result }
@@ -41,8 +41,8 @@ fn open(table: &mut [Slot], points: &Points, i: u32) -> bool
     }
 }
 
-// Joins the slots of an entry with what there is at it.
-fn open_entry(table: &mut [Slot], points: &Points, i: u32) -> bool
+// Joins what is known at an entry with what is known at entries.
+fn open_entry(table: &mut [Known], points: &Points, i: u32) -> bool
     requires entry { IsSomeAnd (slice_get points.now.points i) (λ c. c.point ≡ point c.point.proc_entry c.point.proc_entry) }
     requires justified { AreJustified points.now.points table.old }
     ensures changes { Changes points.now.points table.old table.new result }
@@ -51,13 +51,13 @@ fn open_entry(table: &mut [Slot], points: &Points, i: u32) -> bool
     let row = REGISTERS * i as usize;
     let mut rose = false;
     for register in 0..32u8 {
-        let risen = raise(table, row + register as usize, entry_slot(register));
+        let risen = raise(table, row + register as usize, known_at_entry(register));
         rose = either(risen, rose);
     }
     rose
 }
 
-fn pass_on(table: &mut [Slot], points: &Points, i: u32) -> bool
+fn pass_on(table: &mut [Known], points: &Points, i: u32) -> bool
     requires number { i < length points.now.points }
     requires justified { AreJustified points.now.points table.old }
     ensures changes { Changes points.now.points table.old table.new result }
@@ -78,7 +78,7 @@ fn pass_on(table: &mut [Slot], points: &Points, i: u32) -> bool
     }
 }
 
-fn pass_to(table: &mut [Slot], points: &Points, i: u32, address: u64) -> bool
+fn pass_to(table: &mut [Known], points: &Points, i: u32, address: u64) -> bool
     requires goes { IsSomeAnd (slice_get points.now.points i) (λ c. Contains (goes_on c.point.proc_entry c.flow) (point c.point.proc_entry address)) }
     requires justified { AreJustified points.now.points table.old }
     ensures changes { Changes points.now.points table.old table.new result }
@@ -92,8 +92,8 @@ fn pass_to(table: &mut [Slot], points: &Points, i: u32, address: u64) -> bool
     }
 }
 
-// Joins the slots of a point with what another leaves.
-fn pass(table: &mut [Slot], points: &Points, from: u32, to: u32) -> bool
+// Joins what is known at a point with what another leaves.
+fn pass(table: &mut [Known], points: &Points, from: u32, to: u32) -> bool
     requires goes { IsSomeAnd (slice_get points.now.points from) (λ c. IsSomeAnd (slice_get points.now.points to)
         (λ d. Contains (goes_on c.point.proc_entry c.flow) d.point)) }
     requires justified { AreJustified points.now.points table.old }

@@ -13,7 +13,7 @@ use crate::rows::{
     OP_IMM_32, RegRow, STORE, SYSTEM, ShiftRow,
 };
 
-/// The instruction that a word stands for, by the listings of the RISC-V Unprivileged ISA
+/// The instruction that an instruction word stands for, by the listings of the RISC-V Unprivileged ISA
 /// ("RV32/64G Instruction Set Listings"); `None` exactly where no row of the table has the word.
 pub fn decode(word: u32) -> Option<Instr>
     ensures found { IfSome result (Means word) }

@@ -1,7 +1,7 @@
 use Rattle.std.proofs.Common.{◌≡◌, ◌+◌, ◌-◌, inr, refl, subst, ℕ, arith}
 use Rattle.lead_basis.proofs.Laws.{basis_rows}
 use Rattle.rv_decode.specs.Instructions.{IsWellFormed}
-use Rattle.flow_points.proofs.Lists.{all_at}
+use Rattle.flow_points.proofs.Cited.{all_at}
 use Rattle.analyser_main.specs.Runs.{SpansBehind, AreTold}
 use Rattle.analyser_main.proofs.StatesPushed.{spans_behind}
 use Rattle.analyser_main.proofs.PointsTold.{told_none, told_more}
@@ -23,7 +23,7 @@ state_of-requires c = (c.visible_positions-visible.ensures 16).1 (inr refl)
 
 pub next_states-requires-clause-instr : goal.next_states-requires-clause-instr
 next_states-requires-clause-instr c =
-    all_at (λ code. IsWellFormed code.instr) c.args.points.now.points c.loop-i.i c.code_at-code.result c.code_at-code.ensures c.known_codes.ensures
+    all_at (λ code. IsWellFormed code.instr) c.args.points.now.points c.loop-i.i c.code-code.result c.code-code.ensures c.known_codes.ensures
 
 pub loop-i-preserved : goal.loop-i-preserved
 loop-i-preserved c =
@@ -31,8 +31,8 @@ loop-i-preserved c =
     let points = c.args.points.now in
     let start = c.args.numbers.start in
     let i = c.loop-i.i in
-    let code = c.code_at-code.result in
-    let at = c.code_at-code.ensures in
+    let code = c.code-code.result in
+    let at = c.code-code.ensures in
     let spans = c.loop-i.invariant.here c.loop-i-test.true code at in
     let number : start + (i - start) ≡ i = omega (arith, c.loop-i.auto.i) in
     let count : i + 1 - start ≡ i - start + 1 = omega (arith, c.loop-i.auto.i) in

@@ -1,6 +1,6 @@
 use Rattle.std.proofs.Common.{◌≡◌, ◌++◌, ◌∷◌, [], Vec, Global, ap, rules, ◌∙◌}
-use Rattle.flow_points.specs.declared.steps.CodePoint.{CodePoint}
-use Rattle.flow_points.proofs.Recovered.{code_more, no_code_more}
+use Rattle.flow_points.specs.declared.code_points.CodePoint.{CodePoint}
+use Rattle.flow_points.proofs.CodesFound.{code_more, no_code_more}
 use Rattle.flow_points.proofs.recovery.code_points.Goals as goal
 use Rattle.flow_points.proofs.recovery.code_points.Goals.{in-Ok+in_ok-push-in-Ok, in-Err}
 

@@ -2,8 +2,8 @@ use Rattle.flow_points.proofs.Lists.{all_at}
 use Rattle.flow_points.proofs.SiteFacts.{site_flow}
 use Rattle.elf_image.specs.Images.{code_word}
 use Rattle.flow_points.specs.Sites.{IsSite}
-use Rattle.flow_points.specs.declared.steps.Point.{Point}
-use Rattle.flow_points.specs.declared.steps.Site.{Site}
+use Rattle.flow_points.specs.declared.code_points.Point.{Point}
+use Rattle.flow_points.specs.declared.code_points.Site.{Site}
 use Rattle.flow_points.proofs.walks.follow.Goals as goal
 
 pub add_successors-requires-clause-flow : goal.add_successors-requires-clause-flow

@@ -1,6 +1,7 @@
 use Rattle.std.proofs.Common.{◌<◌, length, length-append, ap, refl, arith}
 use Rattle.flow_points.specs.Walks.{begin}
-use Rattle.flow_points.proofs.Reaching.{closed_more, still_there}
+use Rattle.flow_points.proofs.Closing.{closed_more}
+use Rattle.flow_points.proofs.Reaching.{still_there}
 use Rattle.flow_points.proofs.walks.reached.Goals as goal
 
 pub add-requires-clause-reached : goal.add-requires-clause-reached

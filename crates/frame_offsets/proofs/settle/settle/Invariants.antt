@@ -1,5 +1,5 @@
 use Rattle.std.proofs.Common.{◌≡◌, ◌+◌, ◌*◌, false, length, if◌then◌else◌}
-use Rattle.frame_offsets.specs.Slots.{AreClosedBelow, AreJustified, weight_of}
+use Rattle.frame_offsets.specs.Tables.{AreClosedBelow, AreJustified, weight_of}
 use Rattle.frame_offsets.proofs.settle.settle.Given as goal
 
 abbrev pub invariant-loop-rose : goal.invariant-loop-rose

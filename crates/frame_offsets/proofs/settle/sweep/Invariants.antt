@@ -1,5 +1,5 @@
 use Rattle.std.proofs.Common.{◌≡◌, false}
-use Rattle.frame_offsets.specs.Slots.{AreClosedBelow, Changes}
+use Rattle.frame_offsets.specs.Tables.{AreClosedBelow, Changes}
 use Rattle.frame_offsets.proofs.settle.sweep.Given as goal
 
 abbrev pub invariant-loop-i : goal.invariant-loop-i

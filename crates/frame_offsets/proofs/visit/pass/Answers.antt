@@ -1,10 +1,10 @@
 use Rattle.std.proofs.Common.{◌≡◌, ◌<◌, ℕ, ℤ, Option, slice_get, below_more, sym, ap, subst, ◌∙◌, arith}
 use Rattle.std.proofs.lemmas.Option.{slice_get_within}
 use Rattle.rv_decode.specs.Instructions.{IsWellFormed}
-use Rattle.flow_points.specs.declared.steps.CodePoint.{CodePoint}
-use Rattle.flow_points.proofs.Lists.{item_there}
+use Rattle.flow_points.specs.declared.code_points.CodePoint.{CodePoint}
+use Rattle.flow_points.proofs.Cited.{item_there}
 use Rattle.frame_offsets.specs.Frames.{source_of}
-use Rattle.frame_offsets.specs.Slots.{Changes, IsJustified, Knows, passed, passed_from, slot_at}
+use Rattle.frame_offsets.specs.Tables.{Changes, IsJustified, Knows, passed, passed_from, known_at}
 use Rattle.frame_offsets.proofs.Justified.{either_false, knew, left_is, one_item, raised}
 use Rattle.frame_offsets.proofs.Walking.{at_some, get_some, if_some, well_formed}
 use Rattle.frame_offsets.proofs.visit.pass.Goals as goal
@@ -43,7 +43,7 @@ loop-register-preserved c =
     let source : c.source_of.result ≡ source_of found.0.instr found.0.flow c.loop-register.register =
     c.source_of.ensures.source ∙ (λ i. source_of (instr i) (flow i) r) in
     let left : c.passed-left.result ≡ passed_from c.args.points.now.points c.loop-register.table c.args.from found.0 c.loop-register.register =
-    c.passed-left.ensures ∙ ap (λ (s : Option (ℕ × ℤ)). passed s (slot_at table c.args.from)) source in
+    c.passed-left.ensures ∙ ap (λ (s : Option (ℕ × ℤ)). passed s (known_at table c.args.from)) source in
     let is : IsJustified c.args.points.now.points other.0 c.loop-register.register c.passed-left.result =
     subst (IsJustified points other.0 r) (sym left)
     (left_is points found.0 other.0 (item_there points c.args.to other.0 other.1) other.2 table c.args.from r inv.changes.justified found.1
@@ -56,9 +56,9 @@ loop-register-preserved c =
           let none = sym c.either-rose.ensures ∙ e in
           let two = either_false c.raise-risen.result c.loop-register.rose none in
           let same = one_item points c.args.from c.args.from found.0 d (λ _. c.args.from) found.1 at in
-          below_more (λ k. Knows (slot_at c.args.table.now c.args.to k) (passed_from points c.args.table.now c.args.from d k)) r
+          below_more (λ k. Knows (known_at c.args.table.now c.args.to k) (passed_from points c.args.table.now c.args.from d k)) r
           (inv.passed two.1 d at)
-          (subst (Knows (slot_at c.args.table.now c.args.to r))
+          (subst (Knows (known_at c.args.table.now c.args.to r))
           (left ∙ (λ i. passed_from points (inv.changes.still two.1 i) c.args.from (same i) r))
           (knew points c.args.table.now table c.raise-risen.new.table c.loop-register.rose c.raise-risen.result
           c.args.to r other.0 c.passed-left.result inv.changes other.1 lt c.raise-risen.ensures.after c.raise-risen.ensures.still none));

@@ -1,8 +1,8 @@
 use Rattle.std.proofs.Common.{◌≡◌, List, refl, sym, subst, ◌∙◌}
 use Rattle.flow_points.specs.Walks.{point}
-use Rattle.flow_points.specs.declared.steps.CodePoint.{CodePoint}
-use Rattle.frame_offsets.specs.Slots.{IsPassedOn}
-use Rattle.frame_offsets.specs.declared.slot.Slot.{Slot}
+use Rattle.flow_points.specs.declared.code_points.CodePoint.{CodePoint}
+use Rattle.frame_offsets.specs.Tables.{IsPassedOn}
+use Rattle.frame_offsets.specs.declared.known.Known.{Known}
 use Rattle.frame_offsets.proofs.Justified.{either_false}
 use Rattle.frame_offsets.proofs.Passing.{passed_one, passed_two}
 use Rattle.frame_offsets.proofs.Walking.{at_some}
@@ -33,5 +33,5 @@ returns-in-Branch-clause-passed_on c =
     let two = either_false c.pass_to-first.result c.pass_to-second.result (sym c.either.ensures ∙ e) in
     let same = c.pass_to-first.ensures.changes.still two.0 in
     passed_two _ _ _ d _ (sym flow ∙ c.in-Branch.is) _ _ refl (c.pass_to-first.ensures.passed_on two.0 d at)
-    (subst (λ (t : List Slot). IsPassedOn c.args.points.now.points t c.args.i (point d.point.proc_entry c.in-Branch.target)) same
+    (subst (λ (t : List Known). IsPassedOn c.args.points.now.points t c.args.i (point d.point.proc_entry c.in-Branch.target)) same
     (c.pass_to-second.ensures.passed_on two.1 d at))

@@ -1,8 +1,8 @@
 use Rattle.std.proofs.Common.{◌≡◌, subst}
 use Rattle.flow_points.specs.Walks.{point}
-use Rattle.flow_points.specs.declared.steps.Point.{Point}
-use Rattle.flow_points.specs.declared.steps.CodePoint.{CodePoint}
-use Rattle.frame_offsets.specs.Slots.{IsPassedOn}
+use Rattle.flow_points.specs.declared.code_points.Point.{Point}
+use Rattle.flow_points.specs.declared.code_points.CodePoint.{CodePoint}
+use Rattle.frame_offsets.specs.Tables.{IsPassedOn}
 use Rattle.frame_offsets.proofs.Passing.{passed_nowhere, passed_to}
 use Rattle.frame_offsets.proofs.Walking.{at_some}
 use Rattle.frame_offsets.proofs.visit.pass_to.Goals as goal

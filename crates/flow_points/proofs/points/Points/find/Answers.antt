@@ -1,7 +1,7 @@
 use Rattle.std.proofs.Common.{◌≡◌, ◌<◌, ◌^◌, List, length, slice_get, AllPairs, Contains, IsSomeAnd, ap, subst, sym, ◌∙◌, rules, arith}
 use Rattle.flow_points.specs.Walks.{point}
 use Rattle.flow_points.specs.PointLists.{FlowPoints, IsBefore, places_of}
-use Rattle.flow_points.specs.declared.steps.CodePoint.{CodePoint}
+use Rattle.flow_points.specs.declared.code_points.CodePoint.{CodePoint}
 use Rattle.flow_points.proofs.Ascent.{absent, found}
 use Rattle.flow_points.proofs.points.Points.find.Goals as goal
 

@@ -2,11 +2,11 @@
 
 ghost use Rattle.std.specs.Prelude.{◌≡◌};
 ghost use Rattle.flow_points.specs.Walks.{jump_of};
-ghost use Rattle.flow_points.specs.Refusals.{number_of, place_of};
+ghost use Rattle.flow_points.specs.Refusals.{number_of, address_of};
 ghost use Rattle.flow_points.specs.Causes.{cause_of, first_cause_of, pair_cause, is_sooner, sooner};
 
+use crate::code_points::{Flow, Point, Site};
 use crate::refusal::FlowRefusal;
-use crate::steps::{Flow, Point, Site};
 use crate::walks::{Sites, entry_at};
 
 /// The first cause, by address and then by its number, that makes one of the points bad.
@@ -78,12 +78,12 @@ fn sooner(a: Option<FlowRefusal>, b: Option<FlowRefusal>) -> Option<FlowRefusal>
 fn is_sooner(a: FlowRefusal, b: FlowRefusal) -> bool
     ensures { result ≡ is_sooner a b }
 {
-    let (place, other) = (place_of(a), place_of(b));
+    let (place, other) = (address_of(a), address_of(b));
     place < other || place == other && number_of(a) <= number_of(b)
 }
 
-fn place_of(cause: FlowRefusal) -> u64
-    ensures { result ≡ place_of cause }
+fn address_of(cause: FlowRefusal) -> u64
+    ensures { result ≡ address_of cause }
 {
     match cause {
         FlowRefusal::OutsideCode(address)

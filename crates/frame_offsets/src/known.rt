@@ -2,7 +2,7 @@
 
 /// What the walks that were met so far say of a register at a point.
 #[derive(Clone, Copy, Debug, PartialEq, Eq)]
-pub(crate) enum Slot {
+pub(crate) enum Known {
     /// No walk to the point was met.
     Unmet,
     /// All of them end with this offset, a word.

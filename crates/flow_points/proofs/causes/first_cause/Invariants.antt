@@ -1,6 +1,6 @@
 use Rattle.std.proofs.Common.{◌≡◌, fold, map, take}
 use Rattle.flow_points.specs.Causes.{cause_of, pair_cause, sooner}
-use Rattle.flow_points.proofs.least.first_cause.Given as goal
+use Rattle.flow_points.proofs.causes.first_cause.Given as goal
 
 abbrev pub invariant-loop-at : goal.invariant-loop-at
 invariant-loop-at l =

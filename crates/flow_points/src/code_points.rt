@@ -27,7 +27,7 @@ pub enum Flow {
     Halt,
 }
 
-/// A point with the word at its address, the word's instruction and the instruction's flow.
+/// A point with the instruction word at its address, its instruction and the instruction's flow.
 #[derive(Clone, Copy, Debug, PartialEq, Eq)]
 pub struct CodePoint {
     pub point: Point,

@@ -1,9 +1,9 @@
 use Rattle.std.proofs.Common.{sym, ◌∙◌}
 use Rattle.flow_points.specs.Causes.{cause_of, pair_cause, sooner}
 use Rattle.flow_points.proofs.Soonest.{fold_more}
-use Rattle.flow_points.specs.declared.steps.Point.{Point}
-use Rattle.flow_points.specs.declared.steps.Site.{Site}
-use Rattle.flow_points.proofs.least.first_cause.Goals as goal
+use Rattle.flow_points.specs.declared.code_points.Point.{Point}
+use Rattle.flow_points.specs.declared.code_points.Site.{Site}
+use Rattle.flow_points.proofs.causes.first_cause.Goals as goal
 
 pub loop-at-preserved : goal.loop-at-preserved
 loop-at-preserved c =
