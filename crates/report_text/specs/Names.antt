@@ -1,6 +1,7 @@
 -- Tracked names, and which of them are seen in a procedure.
 --
 --   IsName name                 a register from 1 to 31, or a slot an allowed number of bytes below
+--   IsName-prop name            this has one proof at most
 --   IsAllowedBelow n            n is a multiple of 8 from 8 to 2048
 --   IsSeenIn procedure name     name is a register, or a slot of the procedure
 --   IsSeenAt names procedure k  position k is that of a name seen in the procedure

@@ -3,6 +3,7 @@
 --   IsBefore p q                 point p comes before point q: by procedure, and then by address
 --   Ascend points                each point comes before those after it
 --   AreRelationRows names p rows   rows are a reduced basis of relations between what is seen in procedure p
+--   AreRowsAtState names p state   so are the rows of a state told in procedure p, where it has any
 --   AreRowsAt names point        so are the rows of the point, where it has any
 use Rattle.std.specs.Prelude.{◌≡◌, ◌≢◌, ℕ, ◌<◌, ◌⊎◌, List, All, AllPairs, slice_index}
 use Rattle.word_rows.specs.Rows.{lead}

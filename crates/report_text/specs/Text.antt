@@ -10,9 +10,22 @@
 --   term    = dec "*" name
 --   sign    = "+" | "-"
 --
+--   nl                       the end of a line
 --   name_text name           a register's name, or a slot's procedure and its bytes below
+--   names_text names         names with commas between them
+--   further_names_text names   names, each behind a comma
 --   magnitude w, sign w      a word up to 2^63 is written as itself behind `+`, a greater one as 2^64 - w behind `-`
+--   term_text name w         the magnitude of a word and the name that it is a factor of
+--   word_text leads name w   the term of a word that isn't 0, behind its sign unless it leads the row
+--   terms_text leads names words   the terms of a row's words; leads tells whether those before them are all 0
+--   constant_text w          the constant of a row behind its sign, unless it is 0
 --   rel_text names row       the line of a relation; its constant stands at position 16
+--   rows_text names rows     the lines of relations, or that there is none
+--   state_text names state   the same of a state that is told, or that it is unreached
+--   point_text names point   a point's line and what is told there
+--   proc_text procedure      a procedure's line
+--   opening_text before procedure   that line, unless the point before is of the same procedure
+--   points_text names before points   the points, behind one of the procedure `before`
 --   text_of report           the whole text
 use Rattle.std.specs.Prelude.{ℕ, ◌-◌, ◌^◌, Bool, true, ◌&&◌, nat_le, List, [], ◌∷◌, ◌++◌, Option, Some, None, codes, slice_index, if◌then◌else◌, ◌==◌}
 use Rattle.std.specs.List.{flat_map}

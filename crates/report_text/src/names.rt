@@ -1,3 +1,5 @@
+//! Names that are tracked.
+
 ghost use Rattle.std.specs.Prelude.{◌≤◌, ◌≢◌, length, All, AllPairs};
 ghost use Rattle.report_text.specs.Names.{IsName, IsName-prop};
 

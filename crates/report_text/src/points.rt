@@ -1,3 +1,5 @@
+//! Points, with what is told of each.
+
 use sqlite_items::Items;
 use word_rows::Row;
 

@@ -1,3 +1,5 @@
+//! What an analysis tells.
+
 ghost use Rattle.std.specs.Prelude.{All};
 ghost use Rattle.report_text.specs.Reports.{Ascend, AreRowsAt};
 
