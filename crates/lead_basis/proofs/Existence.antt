@@ -1,5 +1,5 @@
 -- Each list of rows has a leading-position basis: its rows are added one after the other, as an insertion adds one.
-use Rattle.std.proofs.Common.{◌≡◌, ◌≢◌, ℕ, zero, suc, ◌+◌, ◌-◌, ◌*◌, ◌/◌, ◌%◌, ◌^◌, ◌<◌, ◌≤◌, inl, inr, Bool, true, false, List, [], ◌∷◌, length, All, Contains, slice_index, replicate, Result, Ok, Err, refl, ap, sym, ◌∙◌, arith}
+use Rattle.std.proofs.Common.{◌≡◌, ◌≢◌, ℕ, zero, suc, ◌+◌, ◌-◌, ◌*◌, ◌/◌, ◌%◌, ◌^◌, ◌<◌, ◌≤◌, inl, inr, Bool, true, false, List, [], ◌∷◌, length, All, Contains, slice_index, replicate, Ok, refl, ap, sym, ◌∙◌, arith}
 use Rattle.std.proofs.Math.Nat.{mul-mod_right}
 use Rattle.std.proofs.lemmas.Bool.{cases_lt, cases_eq}
 use Rattle.std.proofs.lemmas.Grind.{same_number_lists}
@@ -7,8 +7,8 @@ use Rattle.std.proofs.lemmas.List.Elements.{All-nil, All-cons, All-weaker}
 use Rattle.word_rows.specs.Words.{word}
 use Rattle.word_rows.specs.Rows.{words_of, plus, times, lead, pivot, IsRow}
 use Rattle.word_rows.proofs.Laws.{get_or_before_lead, get_or_at_lead, get_or-zeros, IsRow-zeros, IsWord-get_or, has_inverse, has_odd_part}
-use Rattle.row_modules.specs.Modules.{AreRows, IsCombination, none, SameModule}
-use Rattle.row_modules.specs.Bases.{Leads, IsLeadingBasis, basis_length, used_positions}
+use Rattle.row_modules.specs.Modules.{AreRows, none, SameModule}
+use Rattle.row_modules.specs.Bases.{Leads, IsLeadingBasis}
 use Rattle.row_modules.proofs.Laws.{generator, contains_first, contains_later, same_members}
 use Rattle.lead_basis.specs.Remainders.{TakesMultiple, IsNormal}
 use Rattle.lead_basis.specs.Inserts.{Adds}

@@ -10,7 +10,6 @@ use Rattle.word_rows.specs.Rows.{words_of, plus, IsRow, unit}
 use Rattle.word_rows.proofs.Laws.{get_or-words_of, get_or-wrapped_plus, get_or-zeros, sum_zeros, IsRow-zeros, IsRow-plus, IsRow-unit, unit_at, unit_elsewhere}
 use Rattle.row_modules.specs.Modules.{AreRows, IsCombination, none, more, IsModule}
 use Rattle.row_modules.specs.Positions.{has, with_constant, IsZeroOutside, IsRowOn, IsUnitOn}
-use Rattle.row_modules.proofs.Lists.{spans_more}
 
 pub in_or_out : (s i : ℕ) → IsTrue (has s i) ⊎ (has s i ≡ false)
 in_or_out s i = decided (has s i)

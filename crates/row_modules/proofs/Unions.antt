@@ -1,5 +1,5 @@
 -- Modules of unions of sets.
-use Rattle.std.proofs.Common.{◌≡◌, ℕ, ◌⊎◌, inl, inr, List, ◌∷◌, Contains}
+use Rattle.std.proofs.Common.{◌≡◌, ℕ, inl, inr, List, ◌∷◌, Contains}
 use Rattle.row_modules.specs.Modules.{AreRows, Either, IsWithin, SameModule}
 use Rattle.row_modules.proofs.Closure.{generator}
 use Rattle.row_modules.proofs.Lists.{contains_first, contains_later, first_or_later, spans_more, within_from_generators}

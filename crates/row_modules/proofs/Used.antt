@@ -1,8 +1,8 @@
 -- How many positions a list of rows uses.
-use Rattle.std.proofs.Common.{◌≡◌, ℕ, zero, suc, ◌+◌, ◌-◌, ◌*◌, ◌^◌, ◌<◌, ◌≤◌, inl, inr, Bool, true, false, not, ◌||◌, ◌==◌, List, [], ◌∷◌, Contains, slice_index, min, refl, ap, sym, ◌∙◌, arith, if◌then◌else◌}
+use Rattle.std.proofs.Common.{◌≡◌, ℕ, zero, suc, ◌+◌, ◌-◌, ◌^◌, ◌<◌, ◌≤◌, inl, inr, Bool, true, false, not, ◌||◌, ◌==◌, List, [], ◌∷◌, Contains, slice_index, min, refl, ap, ◌∙◌, arith, if◌then◌else◌}
 use Rattle.std.proofs.lemmas.Bool.{cases_eq, cases_lt, eq-eqb}
 use Rattle.row_modules.specs.Bases.{is_used, used_positions}
-use Rattle.row_modules.specs.Positions.{has, with_constant, IsZeroOutside}
+use Rattle.row_modules.specs.Positions.{with_constant, IsZeroOutside}
 use Rattle.row_modules.proofs.Lists.{contains_first, contains_later}
 use Rattle.row_modules.proofs.Positions.{has_beyond, with_constant_other}
 

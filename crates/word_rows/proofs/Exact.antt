@@ -1,11 +1,6 @@
 -- Exact sums and multiples of lists.
-use Rattle.std.proofs.Common.{◌≡◌, ◌≢◌, ℕ, zero, suc, ◌+◌, ◌*◌, ◌^◌, ◌<◌, ◌≤◌, List, [], ◌∷◌, length, get_or, set, replicate, refl, ap, sym, ◌∙◌, subst, arith, add-one, lit<}
-use Rattle.std.proofs.Math.Dec.{eqb-suc-zero}
-use Rattle.std.proofs.Math.Nat.{mod-mod, mod-add-mod, add-mod-mod, mod-lt}
-use Rattle.std.proofs.lemmas.List.{length-replicate}
-use Rattle.std.proofs.lemmas.Nat.{mul-mod_first, mul-mod_second}
-use Rattle.word_rows.specs.Words.{word, IsWord}
-use Rattle.word_rows.specs.Rows.{words_of, IsRow, dot_sum, dot, plus, times, lead}
+use Rattle.std.proofs.Common.{◌≡◌, ℕ, zero, suc, ◌+◌, ◌*◌, List, [], ◌∷◌, length, replicate, refl, arith}
+use Rattle.word_rows.specs.Rows.{plus, times}
 
 -- exact sums and multiples of rows
 pub plus-zero : (xs ys : List ℕ) → length xs ≡ length ys → plus 0 xs ys ≡ xs

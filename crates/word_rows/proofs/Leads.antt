@@ -1,11 +1,8 @@
 -- The first position whose word isn't 0.
-use Rattle.std.proofs.Common.{◌≡◌, ◌≢◌, ℕ, zero, suc, ◌+◌, ◌*◌, ◌^◌, ◌<◌, ◌≤◌, List, [], ◌∷◌, length, get_or, set, replicate, refl, ap, sym, ◌∙◌, subst, arith, add-one, lit<}
+use Rattle.std.proofs.Common.{◌≡◌, ◌≢◌, ℕ, zero, suc, ◌+◌, ◌*◌, ◌<◌, ◌≤◌, List, [], ◌∷◌, length, get_or, replicate, refl, ap, ◌∙◌, arith, add-one}
 use Rattle.std.proofs.Math.Dec.{eqb-suc-zero}
-use Rattle.std.proofs.Math.Nat.{mod-mod, mod-add-mod, add-mod-mod, mod-lt}
-use Rattle.std.proofs.lemmas.List.{length-replicate}
-use Rattle.std.proofs.lemmas.Nat.{mul-mod_first, mul-mod_second}
-use Rattle.word_rows.specs.Words.{word, IsWord}
-use Rattle.word_rows.specs.Rows.{words_of, IsRow, dot_sum, dot, plus, times, lead}
+use Rattle.word_rows.specs.Words.{word}
+use Rattle.word_rows.specs.Rows.{words_of, plus, lead}
 use Rattle.word_rows.proofs.Wraps.{length-wrapped_plus, get_or-wrapped_plus}
 
 -- the lead

@@ -1,11 +1,9 @@
 -- What is a row: zeros, sums, multiples, rows with a word set, unit rows.
-use Rattle.std.proofs.Common.{◌≡◌, ◌≢◌, ℕ, zero, suc, ◌+◌, ◌*◌, ◌^◌, ◌<◌, ◌≤◌, List, [], ◌∷◌, length, get_or, slice_index, set, replicate, refl, ap, sym, ◌∙◌, subst, arith, add-one, lit<, length-set, get_or-set_same, get_or-set_other}
-use Rattle.std.proofs.Math.Dec.{eqb-suc-zero}
-use Rattle.std.proofs.Math.Nat.{mod-mod, mod-add-mod, add-mod-mod, mod-lt}
+use Rattle.std.proofs.Common.{◌≡◌, ℕ, zero, suc, ◌+◌, ◌*◌, ◌^◌, ◌<◌, List, [], ◌∷◌, length, get_or, slice_index, set, replicate, refl, ap, sym, ◌∙◌, subst, arith, lit<, length-set, get_or-set_same, get_or-set_other}
+use Rattle.std.proofs.Math.Nat.{mod-mod, mod-lt}
 use Rattle.std.proofs.lemmas.List.{map-set, length-replicate}
-use Rattle.std.proofs.lemmas.Nat.{mul-mod_first, mul-mod_second}
 use Rattle.word_rows.specs.Words.{word, IsWord}
-use Rattle.word_rows.specs.Rows.{unit, words_of, IsRow, dot_sum, dot, plus, times, lead}
+use Rattle.word_rows.specs.Rows.{unit, words_of, IsRow, plus, times}
 use Rattle.word_rows.proofs.Wraps.{length-words_of, length-times, length-plus, get_or-words_of, get_or-zeros, words_of-words_of, words_of-zeros}
 
 -- sums, multiples and zeros are rows

@@ -1,11 +1,9 @@
 -- Wraps of words and of lists, and the words of sums and multiples at a position.
-use Rattle.std.proofs.Common.{◌≡◌, ◌≢◌, ℕ, zero, suc, ◌+◌, ◌*◌, ◌^◌, ◌<◌, ◌≤◌, List, [], ◌∷◌, length, get_or, set, replicate, refl, ap, sym, ◌∙◌, subst, arith, add-one, lit<}
-use Rattle.std.proofs.Math.Dec.{eqb-suc-zero}
-use Rattle.std.proofs.Math.Nat.{mod-mod, mod-add-mod, add-mod-mod, mod-lt}
-use Rattle.std.proofs.lemmas.List.{length-replicate}
+use Rattle.std.proofs.Common.{◌≡◌, ℕ, zero, suc, ◌+◌, ◌*◌, ◌^◌, List, [], ◌∷◌, length, get_or, replicate, refl, ap, sym, ◌∙◌, arith}
+use Rattle.std.proofs.Math.Nat.{mod-mod, mod-add-mod, add-mod-mod}
 use Rattle.std.proofs.lemmas.Nat.{mul-mod_first, mul-mod_second}
-use Rattle.word_rows.specs.Words.{word, IsWord}
-use Rattle.word_rows.specs.Rows.{words_of, IsRow, dot_sum, dot, plus, times, lead}
+use Rattle.word_rows.specs.Words.{word}
+use Rattle.word_rows.specs.Rows.{words_of, plus, times}
 
 -- a sum whose first part, or whose factor, is wrapped before
 pub word-plus_first : (x c y : ℕ) → word (word x + c * y) ≡ word (x + c * y)
