@@ -50,5 +50,5 @@ slot_words_are_linear registers slots = record {
       matrix-plus c _ _ _ (λ i j row column. either_plus (has registers i || (i == 16)) c _ _ _ _ _ _ (none c)
       (either_plus (has slots i && (j == 16)) c _ _ _ _ _ _ (plus_at 16 c v w left right i) (none c)));
 } where
-    none : (k : ℕ) → word 0 ≡ word (0 + k * 0)
-    none k = ap word (let e : 0 ≡ 0 + k * 0 = omega arith in e)
+  none : (k : ℕ) → word 0 ≡ word (0 + k * 0)
+  none k = ap word (let e : 0 ≡ 0 + k * 0 = omega arith in e)

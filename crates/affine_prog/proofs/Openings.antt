@@ -1,14 +1,13 @@
 -- What the maps of openings span: the opening under zeros, and one map for each slot.
-use Rattle.std.proofs.Common.{◌≡◌, ℕ, ◌+◌, ◌-◌, ◌*◌, ◌^◌, ◌<◌, inl, inr, Bool, true, false, List, slice_index, replicate, refl, ap, sym, subst, ◌∙◌, arith, ◌==◌, ◌&&◌, ◌||◌, if◌then◌else◌, IsTrue}
-use Rattle.std.proofs.lemmas.Bool.{cases_eq, and_left, ne_eqb}
+use Rattle.std.proofs.Common.{◌≡◌, ℕ, ◌+◌, ◌-◌, ◌*◌, ◌^◌, inl, inr, Bool, true, false, List, slice_index, replicate, refl, ap, sym, subst, ◌∙◌, ◌==◌, ◌&&◌, ◌||◌, if◌then◌else◌}
+use Rattle.std.proofs.lemmas.Bool.{cases_eq, and_left}
 use Rattle.word_rows.specs.Words.{word}
-use Rattle.word_rows.specs.Rows.{words_of, plus, unit, IsRow}
+use Rattle.word_rows.specs.Rows.{words_of, plus, unit}
 use Rattle.word_rows.proofs.Laws.{get_or-zeros, IsRow-zeros, unit_elsewhere}
-use Rattle.row_modules.specs.Modules.{AreRows, Either, IsCombination, none, IsModule, SameModule}
+use Rattle.row_modules.specs.Modules.{AreRows, Either, IsCombination, none, SameModule}
 use Rattle.row_modules.specs.Maps.{Image}
 use Rattle.row_modules.specs.Positions.{has, IsUnitOn}
 use Rattle.row_modules.proofs.Laws.{combinations, generator, mapped_into, either_rows, within_from_generators, in_or_out, units_are_rows, from_units, row_on_all, less_first}
-use Rattle.map_modules.specs.Matrices.{matrix}
 use Rattle.map_modules.proofs.Lemmas.{IsRow-matrix, matrix_from_entries}
 use Rattle.affine_prog.specs.LevelPaths.{opening_map}
 use Rattle.affine_prog.specs.Laws.{slot_words, IsOpening}

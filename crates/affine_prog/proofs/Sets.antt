@@ -1,8 +1,7 @@
 -- Sets of positions as the bits of numbers.
-use Rattle.std.proofs.Common.{◌≡◌, ℕ, ◌<◌, ◌≤◌, ◌^◌, ◌==◌, false, ap, sym, ◌∙◌, arith, bit_and, bit_or, min}
+use Rattle.std.proofs.Common.{◌≡◌, ℕ, ap, sym, ◌∙◌, arith, bit_and, bit_or, min}
 use Rattle.std.specs.Int.{bit_at}
-use Rattle.row_modules.specs.Positions.{has}
-use Rattle.std.proofs.lemmas.Nat.Bits.{bit_at_and, bit_at_or, bit_at-zero, same_from_bits, bit_at_above}
+use Rattle.std.proofs.lemmas.Nat.Bits.{bit_at_and, bit_at_or, bit_at-zero, same_from_bits}
 
 -- a set shares nothing with two others exactly where it shares nothing with their union
 bits_apart : (a b : ℕ) → bit_and a b ≡ 0 → (i : ℕ) → min (bit_at a i) (bit_at b i) ≡ 0

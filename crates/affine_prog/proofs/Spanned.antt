@@ -1,9 +1,9 @@
 -- A relation annihilates the states, and the starts span the unit rows of the registers and of the constant.
-use Rattle.std.proofs.Common.{◌≡◌, ℕ, ◌+◌, ◌-◌, ◌*◌, ◌^◌, ◌<◌, ◌↔◌, inl, inr, List, slice_index, get_or, replicate, refl, ap, ap₂, sym, subst, ◌∙◌, arith}
+use Rattle.std.proofs.Common.{◌≡◌, ℕ, ◌+◌, ◌-◌, ◌*◌, ◌^◌, ◌↔◌, inl, inr, List, slice_index, get_or, ap, sym, subst, ◌∙◌, arith}
 use Rattle.std.proofs.lemmas.Bool.{cases_eq}
 use Rattle.word_rows.specs.Words.{word}
-use Rattle.word_rows.specs.Rows.{words_of, plus, unit, IsRow, IsState}
-use Rattle.word_rows.proofs.Laws.{get_or-wrapped_plus, IsRow-plus, IsRow-unit, unit_at, unit_elsewhere}
+use Rattle.word_rows.specs.Rows.{words_of, plus, unit}
+use Rattle.word_rows.proofs.Laws.{get_or-wrapped_plus, IsRow-unit, unit_at, unit_elsewhere}
 use Rattle.row_modules.specs.Modules.{AreRows, IsCombination, SameModule}
 use Rattle.row_modules.specs.Forms.{Annihilates}
 use Rattle.row_modules.specs.Positions.{with_constant, IsRowOn, IsUnitOn}

@@ -1,5 +1,5 @@
 -- How many positions the maps of level paths and the states of open paths use.
-use Rattle.std.proofs.Common.{◌≡◌, ℕ, ◌+◌, ◌*◌, ◌≤◌, List, Contains}
+use Rattle.std.proofs.Common.{ℕ, ◌+◌, ◌*◌, ◌≤◌, List, Contains}
 use Rattle.row_modules.specs.Modules.{AreRows, IsWithin}
 use Rattle.row_modules.specs.Positions.{with_constant, IsRowOn}
 use Rattle.row_modules.specs.Bases.{used_positions}

@@ -1,22 +1,21 @@
 -- Maps of level paths are 0 outside the rows of visible positions, and the columns of registers; states of open paths are 0
 -- outside the visible positions. The constant's position is in each.
-use Rattle.std.proofs.Common.{◌≡◌, ℕ, ◌<◌, inl, inr, List, [], ◌∷◌, Bool, true, false, All, Contains, IsTrue, drop, slice_index, refl, ap, sym, subst, ◌∙◌, arith, ◌==◌, ◌&&◌, ◌||◌, if◌then◌else◌, bit_or}
+use Rattle.std.proofs.Common.{◌≡◌, ℕ, inl, inr, List, [], ◌∷◌, Bool, true, false, All, drop, slice_index, ap, sym, subst, ◌∙◌, ◌==◌, ◌&&◌, ◌||◌, if◌then◌else◌, bit_or}
 use Rattle.std.proofs.lemmas.Bool.{cases_eq, and_left, and_right, or_from, ne_eqb}
 use Rattle.std.proofs.lemmas.List.Elements.{All-head, All-tail}
 use Rattle.word_rows.specs.Words.{word}
-use Rattle.word_rows.specs.Rows.{IsRow}
 use Rattle.row_modules.specs.Positions.{has, with_constant, IsZeroOutside, IsRowOn}
 use Rattle.row_modules.proofs.Laws.{has_left, out_left, out_right, out_of_set, not_constant}
-use Rattle.map_modules.specs.Matrices.{entry, product, apply, after_affine, extension, IsMatrixOn}
+use Rattle.map_modules.specs.Matrices.{after_affine, extension, IsMatrixOn}
 use Rattle.map_modules.proofs.Lemmas.{entry-matrix, IsRow-matrix, product-identity_first, product_on, after_affine_on, apply_on, extension_rows}
 use Rattle.affine_prog.specs.declared.Program.{Program}
 use Rattle.affine_prog.specs.declared.Assign.{Assign}
 use Rattle.affine_prog.specs.declared.Assign.TheVariants.{Affine, Any}
 use Rattle.affine_prog.specs.declared.Kind.TheVariants.{Do, Call}
-use Rattle.affine_prog.specs.Programs.{edge, exit_of, slots_of, owner_of, visible_in, IsAssignIn, IsWellFormed}
+use Rattle.affine_prog.specs.Programs.{edge, slots_of, owner_of, visible_in, IsAssignIn, IsWellFormed}
 use Rattle.affine_prog.specs.Assignments.{constant, matrix_of}
 use Rattle.affine_prog.specs.LevelPaths.{opening_map, step_map, call_map, LevelPath, opening, step, call}
-use Rattle.affine_prog.specs.OpenPaths.{Start, OpenPath, first, enter}
+use Rattle.affine_prog.specs.OpenPaths.{Start, OpenPath}
 use Rattle.affine_prog.proofs.Steps.{step_map-cons}
 use Rattle.affine_prog.proofs.Paths.{edge_at, open_state}
 use Rattle.affine_prog.proofs.Ends.{end_of_level_path, open_path_ends}
@@ -35,7 +34,7 @@ opening_on registers slots words = record {
       let o = out_of_set (bit_or registers slots) i out in
       entry-matrix _ i j below column
       ∙ ap word (neither (has registers i || (i == 16)) (has slots i && (j == 16)) (if j == i then 1 else 0) (slice_index words i)
-        (or_from _ _ (out_left registers slots i o) (ne_eqb i 16 (not_constant _ i out))) (and_left _ _ (out_right registers slots i o)));
+      (or_from _ _ (out_left registers slots i o) (ne_eqb i 16 (not_constant _ i out))) (and_left _ _ (out_right registers slots i o)));
   in_columns = λ i j below column out.
       entry-matrix _ i j below column ∙ ap word (at_column i j (out_of_set registers j out) (not_constant registers j out));
 } where

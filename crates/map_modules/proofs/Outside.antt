@@ -1,16 +1,15 @@
 -- Matrices that are 0 outside some rows and columns: a module, kept by products and affine assignments, and the positions that
 -- they use.
-use Rattle.std.proofs.Common.{◌≡◌, ℕ, zero, suc, ◌+◌, ◌-◌, ◌*◌, ◌/◌, ◌%◌, ◌^◌, ◌<◌, ◌≤◌, inl, inr, Bool, true, false, List, Contains, replicate, get_or, slice_index, min, IsTrue, refl, ap, ap₂, sym, ◌∙◌, arith, ◌==◌, ◌&&◌, ◌||◌, if◌then◌else◌}
+use Rattle.std.proofs.Common.{◌≡◌, ℕ, zero, suc, ◌+◌, ◌-◌, ◌*◌, ◌^◌, ◌<◌, ◌≤◌, inl, inr, Bool, true, false, List, Contains, slice_index, min, IsTrue, ap, sym, ◌∙◌, arith, ◌==◌, ◌&&◌, ◌||◌, if◌then◌else◌}
 use Rattle.std.proofs.lemmas.Bool.{cases_eq, cases_lt, and_left, or_from, ne_eqb}
 use Rattle.std.proofs.lemmas.List.{get_or_past}
 use Rattle.word_rows.specs.Words.{word}
-use Rattle.word_rows.specs.Rows.{IsRow, words_of, plus}
 use Rattle.word_rows.proofs.Laws.{get_or-zeros, sum_zeros, get_or-wrapped_plus, IsRow-zeros, IsRow-plus}
 use Rattle.row_modules.specs.Modules.{IsModule}
 use Rattle.row_modules.specs.Positions.{has, with_constant, IsZeroOutside}
-use Rattle.row_modules.specs.Bases.{is_used, used_positions}
+use Rattle.row_modules.specs.Bases.{used_positions}
 use Rattle.row_modules.proofs.Laws.{in_not_out, has_beyond, with_constant_other, is_used_none, used_after}
-use Rattle.map_modules.specs.Matrices.{entry, matrix, sum_below, product, apply, after_affine, with_slots, IsMatrixOn}
+use Rattle.map_modules.specs.Matrices.{entry, sum_below, product, apply, after_affine, with_slots, IsMatrixOn}
 use Rattle.map_modules.proofs.Sums.{sum_below_same, sum_below-times}
 use Rattle.map_modules.proofs.Entries.{entry-matrix, IsRow-matrix, get_or-vector, IsRow-vector}
 

@@ -1,7 +1,5 @@
 -- Images of rows under one assignment, and of the sets of rows that generate a module.
-use Rattle.std.proofs.Common.{◌≡◌, ℕ, zero, suc, ◌+◌, ◌*◌, ◌^◌, List, [], ◌∷◌, length, set, get_or, refl, ap, sym, ◌∙◌, arith}
-use Rattle.std.proofs.Math.Nat.{mod-mod}
-use Rattle.std.proofs.lemmas.List.{length-set}
+use Rattle.std.proofs.Common.{◌≡◌, ℕ, ◌+◌, ◌*◌, ◌^◌, List, set, get_or, refl, ap, sym, ◌∙◌, arith}
 use Rattle.std.proofs.lemmas.Nat.{mul-mod_second}
 use Rattle.word_rows.specs.Words.{word}
 use Rattle.word_rows.specs.Rows.{words_of, IsRow, plus, dot, dot_sum}
