@@ -18,7 +18,8 @@ use Rattle.lead_basis.proofs.Normals.{normal_of}
 use Rattle.lead_basis.proofs.Taking.{takes_multiple, taken_later}
 use Rattle.lead_basis.proofs.Between.{between_none, later_within, within_with}
 use Rattle.lead_basis.proofs.Passing.{takes_nothing, adds_passed}
-use Rattle.lead_basis.proofs.Adding.{Precedes, closing_is_row, closing_later, adds_new}
+use Rattle.lead_basis.proofs.Preceding.{Precedes, closing_is_row, closing_later}
+use Rattle.lead_basis.proofs.Adding.{adds_new}
 use Rattle.lead_basis.proofs.Smaller.{Exchanges, exchanged_later}
 use Rattle.lead_basis.proofs.Exchanging.{adds_exchanged}
 use Rattle.lead_basis.proofs.Lengths.{length_within_used}

@@ -6,6 +6,7 @@ pub mod Taking
 pub mod Normals
 pub mod Between
 pub mod Passing
+pub mod Preceding
 pub mod Adding
 pub mod Smaller
 pub mod Exchanging

@@ -8,7 +8,8 @@ use Rattle.row_modules.specs.Bases.{Leads, IsLeadingBasis}
 use Rattle.lead_basis.specs.Remainders.{TakesMultiple, IsNormal}
 use Rattle.lead_basis.specs.Inserts.{AddsFrom}
 use Rattle.lead_basis.proofs.Passing.{adds_passed}
-use Rattle.lead_basis.proofs.Adding.{Precedes, adds_kept, adds_new}
+use Rattle.lead_basis.proofs.Preceding.{Precedes}
+use Rattle.lead_basis.proofs.Adding.{adds_kept, adds_new}
 use Rattle.lead_basis.proofs.Smaller.{Exchanges}
 use Rattle.lead_basis.proofs.Exchanging.{adds_refused, adds_exchanged}
 

@@ -6,4 +6,6 @@ pub mod Products
 pub mod Affine
 pub mod Keeping
 pub mod Outside
+pub mod UsedByMatrices
+pub mod Bilinear
 pub mod Lemmas

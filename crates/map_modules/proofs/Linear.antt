@@ -5,7 +5,6 @@ use Rattle.word_rows.specs.Rows.{words_of, plus, IsRow}
 use Rattle.word_rows.proofs.Laws.{word-plus_first, word-plus_second, get_or-wrapped_plus, length-wrapped_plus}
 use Rattle.row_modules.specs.Positions.{has}
 use Rattle.map_modules.specs.Matrices.{entry, matrix, vector, sum_below, product, apply, after_affine, linear_extension}
-use Rattle.row_modules.specs.Maps.{IsLinear, IsBilinear}
 use Rattle.map_modules.proofs.Sums.{word-word, word-mul, sum_below_same, sum_below-plus}
 use Rattle.map_modules.proofs.Entries.{entry-matrix, matrix_from_entries, IsRow-matrix, get_or-vector, vector_from_index, IsRow-vector}
 
@@ -93,22 +92,3 @@ extension_sum registers slots c v w left right =
     matrix-plus c _ _ _ (λ i j within column. either_plus (has registers i || (i == 16)) c _ _ _ _ _ _
     (plus_at 289 c v w left right (17 * i + j))
     (either_plus (has slots i && (i == j)) c _ _ _ _ _ _ (plus_at 289 c v w left right (17 * 16 + 16)) (ap word (let e : 0 ≡ 0 + c * 0 = omega arith in e))))
-
--- so they are linear maps of rows
-pub product_is_bilinear : IsBilinear 289 289 289 product
-product_is_bilinear = record {
-  first = λ m r. record { rows = λ v row. IsRow-matrix _; sum = product_first m };
-  second = λ m r. record { rows = λ v row. IsRow-matrix _; sum = product_second m };
-}
-
-pub apply_is_bilinear : IsBilinear 289 17 17 apply
-apply_is_bilinear = record {
-  first = λ v r. record { rows = λ m row. IsRow-vector _; sum = apply_first v };
-  second = λ m r. record { rows = λ v row. IsRow-vector _; sum = apply_second m };
-}
-
-pub after_affine_is_linear : (at : ℕ) (row : List ℕ) → IsLinear 289 289 (λ m. after_affine m at row)
-after_affine_is_linear at row = record { rows = λ m r. IsRow-matrix _; sum = after_affine_sum at row }
-
-pub extension_is_linear : (registers slots : ℕ) → IsLinear 289 289 (linear_extension registers slots)
-extension_is_linear registers slots = record { rows = λ m r. IsRow-matrix _; sum = extension_sum registers slots }

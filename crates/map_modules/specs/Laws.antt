@@ -12,10 +12,17 @@
 --   AffineMapsKeepStates   an affine map takes states to states
 --   KeepingIsLinear r      the zero matrix keeps r, and so does what adds a multiple of a matrix that keeps r to another
 --   KeepingLeavesWords     an affine map keeps a position exactly where it leaves the word there as it was, in every state
-use Rattle.std.specs.Prelude.{◌≡◌, ℕ, ◌<◌, ◌↔◌, List, replicate, slice_index}
+--   MatricesOnAreModule    the matrices that are 0 outside some rows and columns are a module
+--   ProductsStayOn         a product is 0 outside the rows of its first factor and the columns of its second
+--   FewEntriesUsed         matrices that are 0 outside the constant's row and column and those at positions below k use at most
+--                          (k + 1) * (k + 1) positions
+use Rattle.std.specs.Prelude.{◌≡◌, ℕ, ◌+◌, ◌*◌, ◌^◌, ◌<◌, ◌≤◌, ◌↔◌, List, Contains, replicate, slice_index}
 use Rattle.word_rows.specs.Rows.{words_of, plus, IsRow, IsState}
+use Rattle.row_modules.specs.Modules.{IsModule}
 use Rattle.row_modules.specs.Maps.{IsLinear, IsBilinear}
-use Rattle.map_modules.specs.Matrices.{identity, product, apply, after_affine, extension, linear_extension, IsAffine, Keeps}
+use Rattle.row_modules.specs.Positions.{with_constant}
+use Rattle.row_modules.specs.Bases.{used_positions}
+use Rattle.map_modules.specs.Matrices.{identity, product, apply, after_affine, extension, linear_extension, IsAffine, IsMatrixOn, Keeps}
 
 abbrev pub ProductsAssociate : Type 0
 ProductsAssociate = (a b c : List ℕ) → product a (product b c) ≡ product (product a b) c
@@ -61,3 +68,17 @@ abbrev pub KeepingLeavesWords : Type 0
 KeepingLeavesWords =
     (m : List ℕ) (r : ℕ) → r < 16 → IsRow 289 m → IsAffine m
     → (Keeps m r ↔ ((v : List ℕ) → IsState v → slice_index (apply m v) r ≡ slice_index v r))
+
+abbrev pub MatricesOnAreModule : Type 0
+MatricesOnAreModule = (rows columns : ℕ) → IsModule 289 (IsMatrixOn rows columns)
+
+abbrev pub ProductsStayOn : Type 0
+ProductsStayOn =
+    (rows middle other columns : ℕ) (after before : List ℕ) → IsMatrixOn rows middle after → IsMatrixOn other columns before
+    → IsMatrixOn rows columns (product after before)
+
+abbrev pub FewEntriesUsed : Type 0
+FewEntriesUsed =
+    (matrices : List (List ℕ)) (k rows columns : ℕ) → k ≤ 16 → rows < 2 ^ k → columns < 2 ^ k
+    → ((m : List ℕ) → Contains matrices m → IsMatrixOn (with_constant rows) (with_constant columns) m)
+    → used_positions 289 matrices ≤ (k + 1) * (k + 1)

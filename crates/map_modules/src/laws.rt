@@ -1,7 +1,7 @@
 //! What holds of all matrices. Each function runs nothing; its contract is a law.
 
 ghost use Rattle.std.specs.Prelude.{ℕ};
-ghost use Rattle.map_modules.specs.Laws.{AffineIsProduct, AffineMapsCompose, AffineMapsKeepStates, AfterAffineIsLinear, ApplyIsLinear, ApplyOfProduct, ExtensionIsLinear, IdentityIsNeutral, KeepingIsLinear, KeepingLeavesWords, ProductIsLinear, ProductsAssociate};
+ghost use Rattle.map_modules.specs.Laws.{AffineIsProduct, AffineMapsCompose, AffineMapsKeepStates, AfterAffineIsLinear, ApplyIsLinear, ApplyOfProduct, ExtensionIsLinear, FewEntriesUsed, IdentityIsNeutral, KeepingIsLinear, KeepingLeavesWords, MatricesOnAreModule, ProductIsLinear, ProductsAssociate, ProductsStayOn};
 
 /// Products associate, the identity is neutral, to apply a product is to apply twice, and an affine assignment is a product.
 pub fn products_associate()
@@ -29,4 +29,12 @@ pub fn affine_maps_compose()
 pub fn keeping_is_linear()
     ensures linear { (r : ℕ) → KeepingIsLinear r }
     ensures words { KeepingLeavesWords }
+{}
+
+/// The matrices that are 0 outside some rows and columns are a module, products stay there, and few rows and columns hold few
+/// words.
+pub fn matrices_on_positions()
+    ensures closed { MatricesOnAreModule }
+    ensures products { ProductsStayOn }
+    ensures few { FewEntriesUsed }
 {}

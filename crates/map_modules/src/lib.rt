@@ -20,7 +20,10 @@ mod matrices;
 mod tests;
 
 pub use calls::{extend_call, keeps};
-pub use laws::{affine_maps_compose, keeping_is_linear, maps_are_linear, products_associate};
+pub use laws::{
+    affine_maps_compose, keeping_is_linear, maps_are_linear, matrices_on_positions,
+    products_associate,
+};
 use lead_basis::Basis;
 pub use matrices::{after_affine, apply, identity, product};
 use word_rows::Row;

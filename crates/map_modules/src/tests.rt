@@ -60,6 +60,7 @@ fn a_kept_position_has_the_constant_word_alone(rt: HostRuntime) {
 #[test]
 fn laws_run_nothing() {
     products_associate();
+    matrices_on_positions();
     maps_are_linear();
     affine_maps_compose();
     keeping_is_linear();

@@ -4,6 +4,7 @@ pub mod Lists
 pub mod Zeros
 pub mod Unknowns
 pub mod Unions
-pub mod Positions
+pub mod Sets
+pub mod UnitRows
 pub mod Used
 pub mod Laws

@@ -4,7 +4,7 @@ use Rattle.std.proofs.lemmas.Bool.{cases_eq, cases_lt, eq-eqb}
 use Rattle.row_modules.specs.Bases.{is_used, used_positions}
 use Rattle.row_modules.specs.Positions.{with_constant, IsZeroOutside}
 use Rattle.row_modules.proofs.Lists.{contains_first, contains_later}
-use Rattle.row_modules.proofs.Positions.{has_beyond, with_constant_other}
+use Rattle.row_modules.proofs.Sets.{has_beyond, with_constant_other}
 
 -- where each row is 0, no row isn't
 pub is_used_none : (rows : List (List ℕ)) (k : ℕ) → ((v : List ℕ) → Contains rows v → slice_index v k ≡ 0) → is_used rows k ≡ false

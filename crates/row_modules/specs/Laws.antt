@@ -17,13 +17,18 @@
 --   SolutionsAreModule P         the rows at which each form of P is 0 are a module
 --   DotIsSymmetric, DotOfSum, DotOfMultiple      dot is a bilinear form, under one wrap
 --   ChoicesAreSpanned            the choices of unknown words span what the choice of zeros and the steps span
-use Rattle.std.specs.Prelude.{◌≡◌, ℕ, ◌+◌, ◌*◌, ◌↔◌, List, ◌∷◌, length, Contains}
+--   RowsOnAreSpanned             the rows that are 0 outside a set of positions are a module, which the unit rows of the set span
+--   FewPositionsUsed             rows of 17 words that are 0 outside the constant's position and positions below k use at most
+--                                k + 1 positions
+use Rattle.std.specs.Prelude.{◌≡◌, ℕ, ◌+◌, ◌*◌, ◌^◌, ◌<◌, ◌≤◌, ◌↔◌, List, ◌∷◌, length, Contains}
 use Rattle.word_rows.specs.Words.{word}
 use Rattle.word_rows.specs.Rows.{words_of, plus, times, dot}
 use Rattle.row_modules.specs.Modules.{AreRows, IsCombination, IsModule, IsWithin, SameModule}
 use Rattle.row_modules.specs.Maps.{IsLinear, IsBilinear, Image, Products}
 use Rattle.row_modules.specs.Forms.{Vanishes, Solutions}
 use Rattle.row_modules.specs.Choices.{IsChoice}
+use Rattle.row_modules.specs.Positions.{with_constant, IsZeroOutside, IsRowOn, IsUnitOn}
+use Rattle.row_modules.specs.Bases.{used_positions}
 
 abbrev pub CombinationsAreModule : (List ℕ → Type 0) → Type 0
 CombinationsAreModule P = (n : ℕ) → AreRows n P → IsModule n (IsCombination n P)
@@ -94,3 +99,12 @@ abbrev pub ChoicesAreSpanned : Type 0
 ChoicesAreSpanned =
     (n : ℕ) (start : List ℕ) (steps : List (List ℕ)) → AreRows n (Contains (start ∷ steps))
     → SameModule n (IsChoice start steps) (Contains (start ∷ steps))
+
+pub record RowsOnAreSpanned : Type 0 where
+  pub closed : (n s : ℕ) → IsModule n (IsRowOn n s)
+  pub spanned : (n s : ℕ) → SameModule n (IsRowOn n s) (IsUnitOn n s)
+
+abbrev pub FewPositionsUsed : Type 0
+FewPositionsUsed =
+    (rows : List (List ℕ)) (k s : ℕ) → k ≤ 16 → s < 2 ^ k → ((v : List ℕ) → Contains rows v → IsZeroOutside (with_constant s) v)
+    → used_positions 17 rows ≤ k + 1

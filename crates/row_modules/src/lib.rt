@@ -2,8 +2,8 @@
 //!
 //! A set of rows generates a module: all sums of words times its rows. The set may be the rows of a list, or any other:
 //! the maps of all paths, the states of all paths. Each function here runs nothing; its contract is a law, proved for every
-//! set. `combinations` has sums, inclusions and generators, `maps` has linear and bilinear maps, and `forms` has rows as
-//! linear forms. How a module is kept, as a list of rows in echelon form, is left to the crates above.
+//! set. `combinations` has sums, inclusions and generators, `maps` has linear and bilinear maps, `positions` has rows
+//! that are 0 outside a set of positions, and `forms` has rows as linear forms. How a module is kept, as a list of rows in echelon form, is left to the crates above.
 //!
 //! ```
 //! combinations_are_a_module::<AllRows>();
@@ -13,6 +13,7 @@
 mod combinations;
 mod forms;
 mod maps;
+mod positions;
 
 pub use combinations::{
     choices_are_spanned, combinations_are_a_module, inclusions, lists_with_one_more,
@@ -20,6 +21,7 @@ pub use combinations::{
 };
 pub use forms::{dot_is_bilinear, zeros_of_forms};
 pub use maps::{images_of_modules, products_of_modules};
+pub use positions::rows_on_positions;
 
 /// A set of rows. A law with such a parameter holds of every set.
 pub trait RowSet {
@@ -28,11 +30,13 @@ pub trait RowSet {
     ghost member: { List ℕ → Type 0 };
 }
 
-/// The set of all lists of numbers.
+/// The set of all rows of 17 words.
 pub struct AllRows;
 
 impl RowSet for AllRows {
-    ghost member = { λ _. Unit {0} };
+    ghost use Rattle.word_rows.specs.Rows.{IsRow};
+
+    ghost member = { λ v. IsRow 17 v };
 }
 
 #[cfg(test)]
@@ -50,5 +54,6 @@ mod tests {
         products_of_modules::<AllRows, AllRows, AllRows, AllRows>();
         dot_is_bilinear();
         zeros_of_forms::<AllRows>();
+        rows_on_positions();
     }
 }

@@ -1,9 +1,10 @@
 -- What is a row: zeros, sums, multiples, rows with a word set, unit rows.
 use Rattle.std.proofs.Common.{◌≡◌, ℕ, zero, suc, ◌+◌, ◌*◌, ◌^◌, ◌<◌, List, [], ◌∷◌, length, get_or, slice_index, set, replicate, refl, ap, sym, ◌∙◌, subst, arith, lit<, length-set, get_or-set_same, get_or-set_other}
 use Rattle.std.proofs.Math.Nat.{mod-mod, mod-lt}
-use Rattle.std.proofs.lemmas.List.{map-set, length-replicate}
+use Rattle.std.proofs.lemmas.List.{map-set, length-replicate, set-get_or}
 use Rattle.word_rows.specs.Words.{word, IsWord}
 use Rattle.word_rows.specs.Rows.{unit, words_of, IsRow, plus, times}
+use Rattle.word_rows.proofs.Exact.{plus-zeros}
 use Rattle.word_rows.proofs.Wraps.{length-words_of, length-times, length-plus, get_or-words_of, get_or-zeros, words_of-words_of, words_of-zeros}
 
 -- sums, multiples and zeros are rows
@@ -59,3 +60,13 @@ unit_at n i below = let e = length-replicate {A = ℕ} n 0 in get_or-set_same (r
 
 pub unit_elsewhere : (n i k : ℕ) → (k ≡ i → ⊥) → slice_index (unit n i) k ≡ 0
 unit_elsewhere n i k ne = get_or-set_other (replicate n 0) i k 1 0 ne ∙ get_or-zeros n k
+
+-- a row is its word at a position times the unit row there, added to the row with 0 there
+pub cleared_and_unit : (n i : ℕ) (v : List ℕ) → IsRow n v → v ≡ words_of (plus (slice_index v i) (set v i 0) (unit n i))
+cleared_and_unit n i v row =
+    let x = slice_index v i in
+    let e : 0 + x * 1 ≡ x = omega arith in
+    let w : word x ≡ x = sym (get_or-words_of v i) ∙ ap (λ ys. slice_index ys i) row.words in
+    sym (set-get_or v i 0) ∙ ap (set v i) (sym (ap word e ∙ w))
+    ∙ ap (λ ys. set ys i (word (0 + x * 1))) (sym (ap words_of (plus-zeros x v n row.width) ∙ row.words))
+    ∙ plus-set x i 0 1 v (replicate n 0) (row.width ∙ sym (IsRow-zeros n).width)

@@ -4,7 +4,7 @@ use Rattle.word_rows.specs.Rows.{lead, pivot}
 use Rattle.lead_basis.specs.Remainders.{TakesMultiple}
 use Rattle.lead_basis.specs.Inserts.{HasLead, LacksLead}
 use Rattle.lead_basis.proofs.Taking.{taken_later}
-use Rattle.lead_basis.proofs.Adding.{Precedes, closing_is_row, closing_later}
+use Rattle.lead_basis.proofs.Preceding.{precedes, closing_is_row, closing_later}
 use Rattle.lead_basis.proofs.Smaller.{exchanged_later}
 use Rattle.lead_basis.proofs.Places.{basis_after, exchanges, adds_from_passed, adds_from_refused, adds_from_exchanged, adds_from_kept, adds_from_new}
 use Rattle.lead_basis.proofs.Reached.{basis_reached, adds_from_reached, meets, adds_from_any_err, adds_from_zero}
@@ -12,60 +12,28 @@ use Rattle.lead_basis.proofs.place.+place.Goals as goal
 
 pub add-place-requires : goal.add-place-requires
 add-place-requires g t c κs within =
-    let own = c.normal-own.ensures in
-    let x : Precedes g.row.N (drop c.args.at c.args.rows.now.items) c.args.row.now c.normal-own.result c.closing.result = record {
-      basis = c.requires.basis;
-      row_is = c.known.ensures.row;
-      normal = own;
-      inside = c.requires.some;
-      later = c.requires.later;
-      closes = c.closing.ensures own.power own.small own.is_pivot;
-    } in
+    let x = precedes g.row.N (drop c.args.at c.args.rows.now.items) c.args.row.now c.normal-own.result c.closing.result c.requires.basis c.known.ensures.row c.normal-own.ensures c.requires.some c.requires.later c.closing.ensures in
     let later = closing_later x in
     let w = c.known.ensures.row.width in let v = (closing_is_row x).width in let some = c.requires.some in
     (omega arith, (search rules, (within, (search rules, (c.requires.within, c.requires.basis)))))
 
 pub add-returns-in_err-place : goal.add-returns-in_err-place
 add-returns-in_err-place g t c =
-    let own = c.normal-own.ensures in
-    let x : Precedes g.row.N (drop c.args.at c.args.rows.now.items) c.args.row.now c.normal-own.result c.closing.result = record {
-      basis = c.requires.basis;
-      row_is = c.known.ensures.row;
-      normal = own;
-      inside = c.requires.some;
-      later = c.requires.later;
-      closes = c.closing.ensures own.power own.small own.is_pivot;
-    } in
+    let x = precedes g.row.N (drop c.args.at c.args.rows.now.items) c.args.row.now c.normal-own.result c.closing.result c.requires.basis c.known.ensures.row c.normal-own.ensures c.requires.some c.requires.later c.closing.ensures in
     let inside : c.args.at ≤ length c.args.rows.now.items = let h = c.requires.within in let ok = c.args.rows.now.ok in omega arith in
     adds_from_any_err g.row.N c.args.at c.args.rows.now.items c.args.row.now c.place.new.rows.items c.from_residual.result c.args.steps.now c.place.new.steps c.from_residual.ensures.0
     (λ e. adds_from_kept g.row.N c.args.at c.args.rows.now.items inside c.args.row.now c.normal-own.result c.closing.result x c.place.new.rows.items c.place.result e c.args.steps.now c.place.new.steps c.place.ensures)
 
 pub add-returns-in-Ok : goal.add-returns-in-Ok
 add-returns-in-Ok g t c =
-    let own = c.normal-own.ensures in
-    let x : Precedes g.row.N (drop c.args.at c.args.rows.now.items) c.args.row.now c.normal-own.result c.closing.result = record {
-      basis = c.requires.basis;
-      row_is = c.known.ensures.row;
-      normal = own;
-      inside = c.requires.some;
-      later = c.requires.later;
-      closes = c.closing.ensures own.power own.small own.is_pivot;
-    } in
+    let x = precedes g.row.N (drop c.args.at c.args.rows.now.items) c.args.row.now c.normal-own.result c.closing.result c.requires.basis c.known.ensures.row c.normal-own.ensures c.requires.some c.requires.later c.closing.ensures in
     let inside : c.args.at ≤ length c.args.rows.now.items = let h = c.requires.within in let ok = c.args.rows.now.ok in omega arith in
     let items = c.in-Ok.ensures.items in let ticked = c.tick.ensures in
     rw (items, ticked) (adds_from_new g.row.N c.args.at c.args.rows.now.items inside c.args.row.now c.normal-own.result c.closing.result x c.place.new.rows.items c.in_ok-place.field-0 c.args.steps.now c.place.new.steps c.in_ok-place.ensures)
 
 pub add-returns-in-Err : goal.add-returns-in-Err
 add-returns-in-Err g t c =
-    let own = c.normal-own.ensures in
-    let x : Precedes g.row.N (drop c.args.at c.args.rows.now.items) c.args.row.now c.normal-own.result c.closing.result = record {
-      basis = c.requires.basis;
-      row_is = c.known.ensures.row;
-      normal = own;
-      inside = c.requires.some;
-      later = c.requires.later;
-      closes = c.closing.ensures own.power own.small own.is_pivot;
-    } in
+    let x = precedes g.row.N (drop c.args.at c.args.rows.now.items) c.args.row.now c.normal-own.result c.closing.result c.requires.basis c.known.ensures.row c.normal-own.ensures c.requires.some c.requires.later c.closing.ensures in
     let inside : c.args.at ≤ length c.args.rows.now.items = let h = c.requires.within in let ok = c.args.rows.now.ok in omega arith in
     let items = c.in-Err.ensures.items in
     rw items (adds_from_kept g.row.N c.args.at c.args.rows.now.items inside c.args.row.now c.normal-own.result c.closing.result x c.place.new.rows.items c.place.result (record {}) c.args.steps.now c.place.new.steps c.place.ensures)
