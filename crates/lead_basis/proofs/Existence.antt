@@ -1,131 +1,13 @@
--- Each list of rows has a leading-position basis: its rows are added one after the other, as an insertion adds one.
-use Rattle.std.proofs.Common.{◌≡◌, ◌≢◌, ℕ, zero, suc, ◌+◌, ◌-◌, ◌*◌, ◌/◌, ◌%◌, ◌^◌, ◌<◌, ◌≤◌, inl, inr, Bool, true, false, List, [], ◌∷◌, length, All, Contains, slice_index, replicate, Ok, refl, ap, sym, ◌∙◌, arith}
-use Rattle.std.proofs.Math.Nat.{mul-mod_right}
-use Rattle.std.proofs.lemmas.Bool.{cases_lt, cases_eq}
-use Rattle.std.proofs.lemmas.Grind.{same_number_lists}
-use Rattle.std.proofs.lemmas.List.Elements.{All-nil, All-cons, All-weaker}
-use Rattle.word_rows.specs.Words.{word}
-use Rattle.word_rows.specs.Rows.{words_of, plus, times, lead, pivot, IsRow}
-use Rattle.word_rows.proofs.Laws.{get_or_before_lead, get_or_at_lead, get_or-zeros, IsRow-zeros, IsWord-get_or, has_inverse, has_odd_part}
-use Rattle.row_modules.specs.Modules.{AreRows, none, SameModule}
-use Rattle.row_modules.specs.Bases.{Leads, IsLeadingBasis}
+-- Each list of rows has a leading-position basis: its rows are added one after the other.
+use Rattle.std.proofs.Common.{ℕ, ◌+◌, List, [], ◌∷◌, length, Contains, arith}
+use Rattle.row_modules.specs.Modules.{AreRows, SameModule}
+use Rattle.row_modules.specs.Bases.{IsLeadingBasis}
 use Rattle.row_modules.proofs.Laws.{generator, contains_first, contains_later, same_members}
-use Rattle.lead_basis.specs.Remainders.{TakesMultiple, IsNormal}
-use Rattle.lead_basis.specs.Inserts.{Adds}
 use Rattle.lead_basis.specs.Laws.{HasBasis}
 use Rattle.lead_basis.proofs.Leading.{basis_rows}
-use Rattle.lead_basis.proofs.Normals.{normal_of}
-use Rattle.lead_basis.proofs.Taking.{takes_multiple, taken_later}
-use Rattle.lead_basis.proofs.Between.{between_none, later_within, within_with}
-use Rattle.lead_basis.proofs.Passing.{takes_nothing, adds_passed}
-use Rattle.lead_basis.proofs.Preceding.{Precedes, closing_is_row, closing_later}
-use Rattle.lead_basis.proofs.Adding.{adds_new}
-use Rattle.lead_basis.proofs.Smaller.{Exchanges, exchanged_later}
-use Rattle.lead_basis.proofs.Exchanging.{adds_exchanged}
+use Rattle.lead_basis.proofs.Between.{later_within, within_with}
 use Rattle.lead_basis.proofs.Lengths.{length_within_used}
-
--- a row that isn't zero has a multiple whose pivot is a power of two, and leaves less than a pivot of another
-has_normal : (n : ℕ) (row : List ℕ) → IsRow n row → lead row < n → (own : List ℕ) × IsNormal n row own
-has_normal n row is inside =
-    let w = is.width in
-    let part = has_odd_part (slice_index row (lead row)) (get_or_at_lead row (omega arith)) (IsWord-get_or n row is (lead row)) in
-    let inverse = has_inverse part.odd part.is_odd in (
-      words_of (times inverse.0 row),
-      normal_of n row (words_of (times inverse.0 row)) part.power part.odd inverse.0 is inside part.product part.small inverse.1 refl,
-    )
-
-has_rest : (n : ℕ) (by row : List ℕ) → IsRow n by → IsRow n row → (rest : List ℕ) × TakesMultiple n by row rest
-has_rest n by row b r =
-    let q = slice_index row (lead by) / pivot by in
-    let z : (2 ^ 64 - 1) * q + q ≡ 2 ^ 64 * q = omega arith in
-    (words_of (plus ((2 ^ 64 - 1) * q) row by), takes_multiple n by row _ ((2 ^ 64 - 1) * q) q (pivot by) b r refl refl (ap word z ∙ mul-mod_right (2 ^ 64) q) refl)
-
--- a basis with a row added
-record Extended (n : ℕ) (old : List (List ℕ)) (row : List ℕ) : Type 0 where
-  new : List (List ℕ)
-  grew : Bool
-  steps : ℕ
-  adds : Adds {E = ℕ} n old row new (Ok grew) 0 steps
-
-nothing_new : (n : ℕ) (old : List (List ℕ)) (row : List ℕ) → IsLeadingBasis n old → IsRow n row → n ≤ lead row → Extended n old row
-nothing_new n old row basis is past =
-    let w = is.width in
-    let z : row ≡ replicate n 0 = same_number_lists row (replicate n 0) (is.width ∙ sym (IsRow-zeros n).width) (λ k below. get_or_before_lead row k (omega arith) ∙ sym (get_or-zeros n k)) in
-    record {
-      new = old;
-      grew = false;
-      steps = 0;
-      adds = record {
-        between = between_none n old row basis;
-        added = none row z;
-        not_grown = (λ f. none row z, λ m. refl);
-        memory = tt;
-        never_falls = omega arith;
-        counts_growth = λ h. absurd (cc);
-        counts_no_more = λ f. refl;
-        counts_rows = omega arith;
-        bounded = omega arith;
-      };
-    }
-
-module _ (n : ℕ) (row : List ℕ) (is : IsRow n row) (inside : lead row < n) where
-  -- before all others
-  first_of_all : (old : List (List ℕ)) → IsLeadingBasis n old → All (λ r. lead row < lead r) old → ((next : List ℕ) → IsRow n next → lead row < lead next → Extended n old next) → Extended n old row
-  first_of_all old basis later more =
-      let (own, normal) = has_normal n row is inside in
-      let it : Precedes n old row own (words_of (times (2 ^ (64 - normal.power)) own)) =
-      record { basis = basis; row_is = is; normal = normal; inside = inside; later = later; closes = refl } in
-      let e = more _ (closing_is_row it) (closing_later it) in
-      record { new = own ∷ e.new; grew = true; steps = e.steps + 1; adds = adds_new it e.new e.grew 0 e.steps e.adds }
-
-  module _ (first : List ℕ) (rest : List (List ℕ)) (leads : Leads n first rest) (basis : IsLeadingBasis n rest) (more : (next : List ℕ) → IsRow n next → lead row ≤ lead next → Extended n rest next) where
-    -- behind one with its lead, or an earlier one
-    passes : (next : List ℕ) → TakesMultiple n first row next → lead first < lead next → lead row ≤ lead next → Extended n (first ∷ rest) row
-    passes next takes later no_less =
-        let e = more next takes.is_row no_less in
-        record { new = first ∷ e.new; grew = e.grew; steps = e.steps; adds = adds_passed n first row next rest leads basis is takes later e.new (Ok e.grew) 0 e.steps e.adds }
-
-    -- in place of one with its lead
-    exchanged : lead first ≡ lead row → slice_index row (lead row) % pivot first ≢ 0 → Extended n (first ∷ rest) row
-    exchanged same left =
-        let (own, normal) = has_normal n row is inside in
-        let (next, takes) = has_rest n own first normal.is_row leads.is_row in
-        let it : Exchanges n rest first row own next =
-        record { leads = leads; basis = basis; row_is = is; normal = normal; same = same; left_over = left; takes = takes } in
-        let later = exchanged_later it in
-        let e = more next takes.is_row (omega arith) in
-        record { new = own ∷ e.new; grew = true; steps = e.steps + 1; adds = adds_exchanged it e.new e.grew 0 e.steps e.adds }
-
-    meets : lead first ≡ lead row → Extended n (first ∷ rest) row
-    meets same =
-        let (next, takes) = has_rest n first row leads.is_row is in
-        elim (cases_eq (slice_index next (lead row)) 0) [
-          | inl z ↦ let later = taken_later n first row next leads.is_row same inside takes z in passes next takes (omega arith) (omega arith)
-          | inr left ↦ exchanged same (λ z. left (ap (λ (k : ℕ). slice_index next k) (sym same) ∙ takes.left ∙ ap (λ (k : ℕ). slice_index row k % pivot first) same ∙ z))
-        ]
-
-    follows : lead first ≤ lead row → Extended n (first ∷ rest) row
-    follows le = elim (cases_eq (lead first) (lead row)) [
-      | inl same ↦ meets same
-      | inr other ↦ passes row (takes_nothing n first row leads.is_row is (omega arith)) (omega arith) (omega arith)
-    ]
-
-extended : (n fuel : ℕ) (old : List (List ℕ)) (row : List ℕ) → IsLeadingBasis n old → IsRow n row → n + length old ≤ lead row + fuel → Extended n old row
-extended n zero old row basis is enough = nothing_new n old row basis is (omega arith)
-extended n (suc fuel) [] row basis is enough = elim (cases_lt (lead row) n) [
-  | inl inside ↦ first_of_all n row is inside [] basis (All-nil (λ r. lead row < lead r)) (λ next p later. extended n fuel [] next basis p (omega arith))
-  | inr past ↦ nothing_new n [] row basis is past
-]
-extended n (suc fuel) (first ∷ rest) row basis is enough = elim (cases_lt (lead row) n) [
-  | inl inside ↦ elim (cases_lt (lead row) (lead first)) [
-    | inl before ↦
-        first_of_all n row is inside (first ∷ rest) basis
-        (All-cons (λ r. lead row < lead r) first rest before (All-weaker (λ r. lead first < lead r) (λ r. lead row < lead r) (λ r k. omega arith) rest basis.0.later))
-        (λ next p later. extended n fuel (first ∷ rest) next basis p (omega arith))
-    | inr after ↦ follows n row is inside first rest basis.0 basis.1 (λ next p later. extended n fuel rest next basis.1 p (omega arith)) after
-  ]
-  | inr past ↦ nothing_new n (first ∷ rest) row basis is past
-]
+use Rattle.lead_basis.proofs.Insertion.{extended}
 
 record Based (n : ℕ) (rows : List (List ℕ)) : Type 0 where
   basis : List (List ℕ)

@@ -22,5 +22,6 @@ pub mod Trailing
 pub mod Units
 pub mod Tails
 pub mod Annihilating
+pub mod Insertion
 pub mod Existence
 pub mod Laws

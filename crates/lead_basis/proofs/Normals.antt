@@ -1,10 +1,10 @@
 -- Rows whose pivot is made a power of two.
-use Rattle.std.proofs.Common.{◌≡◌, ℕ, ◌*◌, ◌^◌, ◌<◌, List, slice_index, ap, sym, ◌∙◌, arith}
+use Rattle.std.proofs.Common.{refl, ◌≡◌, ℕ, ◌*◌, ◌^◌, ◌<◌, List, slice_index, ap, sym, ◌∙◌, arith}
 use Rattle.std.proofs.Math.Nat.{mod-eq_of_lt}
 use Rattle.std.proofs.lemmas.Nat.{pow_pos, pow_below, mul-mod_second}
 use Rattle.word_rows.specs.Words.{word}
 use Rattle.word_rows.specs.Rows.{words_of, times, lead, IsRow}
-use Rattle.word_rows.proofs.Laws.{get_or_before_lead, lead_from_index, words_of-times, words_of-times_factor, times-times, times-one, IsRow-times}
+use Rattle.word_rows.proofs.Laws.{get_or_at_lead, IsWord-get_or, has_inverse, has_odd_part, get_or_before_lead, lead_from_index, words_of-times, words_of-times_factor, times-times, times-one, IsRow-times}
 use Rattle.lead_basis.specs.Remainders.{IsNormal}
 use Rattle.lead_basis.proofs.Positions.{index_of_multiple}
 
@@ -46,3 +46,13 @@ module _ (n : ℕ) (row own : List ℕ) (t odd inverse : ℕ) (row_is : IsRow n 
         ∙ sym (words_of-times_factor (odd * inverse) row) ∙ ap (λ (x : ℕ). words_of (times x row)) inverts ∙ ap words_of (times-one row) ∙ row_is.words
         );
   }
+
+-- each row that isn't zero has such a multiple
+pub has_normal : (n : ℕ) (row : List ℕ) → IsRow n row → lead row < n → (own : List ℕ) × IsNormal n row own
+has_normal n row is inside =
+    let w = is.width in
+    let part = has_odd_part (slice_index row (lead row)) (get_or_at_lead row (omega arith)) (IsWord-get_or n row is (lead row)) in
+    let inverse = has_inverse part.odd part.is_odd in (
+      words_of (times inverse.0 row),
+      normal_of n row (words_of (times inverse.0 row)) part.power part.odd inverse.0 is inside part.product part.small inverse.1 refl,
+    )

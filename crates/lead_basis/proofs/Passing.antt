@@ -1,5 +1,5 @@
 -- A row that passes one with its lead, or with an earlier one.
-use Rattle.std.proofs.Common.{◌≡◌, ℕ, ◌+◌, ◌-◌, ◌*◌, ◌/◌, ◌%◌, ◌^◌, ◌<◌, ◌≤◌, Bool, IsFalse, List, ◌∷◌, length, Contains, slice_index, Result, Ok, Err, OnErr, ◌↔◌, ap, sym, ◌∙◌, arith}
+use Rattle.std.proofs.Common.{◌≡◌, ℕ, ◌+◌, ◌-◌, ◌*◌, ◌/◌, ◌%◌, ◌^◌, ◌<◌, ◌≤◌, Bool, IsFalse, List, ◌∷◌, length, Contains, slice_index, Result, Ok, Err, OnErr, ◌↔◌, refl, ap, sym, ◌∙◌, arith}
 use Rattle.std.proofs.Math.Nat.{mul-mod_right, zero-mod, zero-div}
 use Rattle.std.proofs.lemmas.Result.{IfOk-weaker}
 use Rattle.word_rows.specs.Words.{word}
@@ -12,12 +12,20 @@ use Rattle.row_modules.proofs.Laws.{contains_first, contains_later, rows_with, w
 use Rattle.lead_basis.specs.Remainders.{TakesMultiple}
 use Rattle.lead_basis.specs.Inserts.{IsBetween, Adds}
 use Rattle.lead_basis.proofs.Positions.{take_back}
+use Rattle.lead_basis.proofs.Taking.{takes_multiple}
 use Rattle.lead_basis.proofs.Leading.{basis_rows, drop_first}
 use Rattle.lead_basis.proofs.Between.{between_under, between_from}
 
 pub IfErr-weaker : {X E : Type 0} (r : Result X E) (P Q : Type 0) → (P → Q) → OnErr r P → OnErr r Q
 IfErr-weaker (Ok x) P Q h p = tt
 IfErr-weaker (Err e) P Q h p = h p
+
+-- each row has a rest by another
+pub has_rest : (n : ℕ) (by row : List ℕ) → IsRow n by → IsRow n row → (rest : List ℕ) × TakesMultiple n by row rest
+has_rest n by row b r =
+    let q = slice_index row (lead by) / pivot by in
+    let z : (2 ^ 64 - 1) * q + q ≡ 2 ^ 64 * q = omega arith in
+    (words_of (plus ((2 ^ 64 - 1) * q) row by), takes_multiple n by row _ ((2 ^ 64 - 1) * q) q (pivot by) b r refl refl (ap word z ∙ mul-mod_right (2 ^ 64) q) refl)
 
 -- what is taken can be added: the rest is the row with a multiple added
 pub rest_is : (n : ℕ) (by row rest : List ℕ) → IsRow n by → TakesMultiple n by row rest → rest ≡ words_of (plus ((2 ^ 64 - 1) * (slice_index row (lead by) / pivot by)) row by)
