@@ -1,10 +1,9 @@
 -- The map of a step is affine in the words that are chosen: the map under zeros, plus each word times a fixed difference.
-use Rattle.std.proofs.Common.{◌≡◌, ℕ, suc, ◌<◌, List, [], ◌∷◌, length, drop, replicate, get_or, slice_index, All, refl, ap, ap₂, sym, subst, ◌∙◌, arith}
+use Rattle.std.proofs.Common.{◌≡◌, ℕ, suc, ◌<◌, List, [], ◌∷◌, length, drop, replicate, get_or, slice_index, All, refl, ap, ap₂, sym, ◌∙◌, arith}
 use Rattle.std.proofs.Math.ListN.{length-set}
 use Rattle.std.proofs.lemmas.List.{length-replicate}
 use Rattle.std.proofs.lemmas.List.Elements.{All-head, All-tail, All-cons, All-nil}
 use Rattle.word_rows.specs.Rows.{words_of, plus, unit, IsRow}
-use Rattle.row_modules.specs.Choices.{IsChoice}
 use Rattle.word_rows.proofs.Laws.{get_or-zeros}
 use Rattle.map_modules.specs.Matrices.{product, after_affine}
 use Rattle.map_modules.proofs.Entries.{IsRow-matrix}
@@ -12,9 +11,9 @@ use Rattle.affine_prog.specs.declared.Assign.{Assign}
 use Rattle.affine_prog.specs.declared.Assign.TheVariants.{Affine, Any}
 use Rattle.affine_prog.specs.Assignments.{position_of, unknown_count, constant, assignment, matrix_of}
 use Rattle.affine_prog.specs.LevelPaths.{step_map}
-use Rattle.affine_prog.specs.Laws.{zero_choice, IsStepOf, IsAffineInChoices}
+use Rattle.affine_prog.specs.Laws.{zero_choice}
 use Rattle.affine_prog.proofs.Steps.{step_is_linear, step_map-cons, spread, unknown_word, HasNoConstant, unknown_of_none, HasNoConstant-after_affine, HasNoConstant-spread}
-use Rattle.affine_prog.proofs.Combined.{combined, combined_is_choice, choice_is_combined, combined-unit}
+use Rattle.affine_prog.proofs.Combined.{combined, combined-unit}
 
 -- the positions that are assigned are below 16
 abbrev pub ArePlaced : List Assign → Type 0
@@ -93,32 +92,3 @@ under_unit assigns m n k placed count within =
     step_map-combined assigns (unit n k) m placed (long ∙ count)
     ∙ ap (λ i. combined (step_map assigns [] m) (unit i k) (differences_of assigns m)) rows
     ∙ combined-unit (step_map assigns [] m) (differences_of assigns m) k (IsRow-matrix _) (differences_are_rows assigns m) (omega arith)
-
--- the maps under all choices are the choices of the differences
-module _ (assigns : List Assign) (m : List ℕ) (placed : ArePlaced assigns) where
-  abbrev start : List ℕ
-  start = step_map assigns (zero_choice (unknown_count assigns)) m
-
-  under_words : (words : List ℕ) → length words ≡ unknown_count assigns → step_map assigns words m ≡ combined start words (differences_of assigns m)
-  under_words words long =
-      step_map-combined assigns words m placed long ∙ ap (λ s. combined s words (differences_of assigns m)) (under_zeros assigns m)
-
-  pub step_is_choice : (n : List ℕ) → IsStepOf assigns m n → IsChoice start (differences_of assigns m) n
-  step_is_choice n (words, choice, is) =
-      rw (is, under_words words choice.width) (combined_is_choice start words (differences_of assigns m) (choice.width ∙ sym (length-differences_of assigns m)))
-
-  pub choice_is_step : (n : List ℕ) → IsChoice start (differences_of assigns m) n → IsStepOf assigns m n
-  choice_is_step n c =
-      let (words, row, is) = choice_is_combined start (differences_of assigns m) n c in
-      let choice = subst (λ k. IsRow k words) (length-differences_of assigns m) row in
-      (words, choice, is ∙ sym (under_words words choice.width))
-
-pub step_is_affine_in_choices : (assigns : List Assign) (m : List ℕ) → ArePlaced assigns → IsRow 289 m → IsAffineInChoices assigns m
-step_is_affine_in_choices assigns m placed row = record {
-  differences = differences_of assigns m;
-  one_each = length-differences_of assigns m;
-  rows = differences_are_rows assigns m;
-  choices = λ n. (step_is_choice assigns m placed n, choice_is_step assigns m placed n);
-  units = λ k within. under_unit assigns m (unknown_count assigns) k placed refl within
-      ∙ ap (λ s. words_of (plus 1 s (get_or (differences_of assigns m) k []))) (under_zeros assigns m);
-}

@@ -3,6 +3,7 @@ pub mod Lists
 pub mod Steps
 pub mod Combined
 pub mod Choices
+pub mod StepChoices
 pub mod Calls
 pub mod Paths
 pub mod Ends

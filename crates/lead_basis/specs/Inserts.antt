@@ -7,7 +7,7 @@
 --       between            at every answer, new lies between old and old with the row
 --       added              at Ok the row is a combination of new
 --       not_grown          the answer is false exactly where the row was a combination of old
---       memory             memory was wanting only where it wasn't
+--       memory             it was out of memory only where the row wasn't
 --       counts_growth      where the module grew, the counter rose
 --       counts_no_more     where it didn't, the counter stayed
 --       counts_rows        at Ok the counter rose by at least the gain in rows

@@ -71,7 +71,7 @@ impl<const N: usize> Basis<N> {
     }
 
     /// Adds a row: the module becomes the old one and all multiples of the row. The answer is true exactly where the
-    /// module grew. Where memory is wanting, which never comes for a row of the module, the module lies between the two.
+    /// module grew. Out of memory, which never comes for a row of the module, the module lies between the two.
     /// The counter rises by at least 1 where the module grew and by 0 where it didn't, by at least the gain in rows, and
     /// never by more than the gain in length.
     pub fn insert<L: Ledger>(&mut self, row: Row<N>, steps: &mut Steps<L>) -> Result<bool, Memory>

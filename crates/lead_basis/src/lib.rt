@@ -3,7 +3,7 @@
 //! A [`Basis`] always holds such a list, and stands for its module, all combinations of its rows. A row is added by
 //! `insert`, which tells whether the module grew and counts the placements on a [`Steps`] counter; `member` is exact;
 //! `reduced` gives the one basis of the module whose words in the column of each pivot are below it; `length` bounds the
-//! placements that can ever be counted. Memory is taken for the rows alone, and where it is wanting, the basis is still one,
+//! placements that can ever be counted. Memory is taken for the rows alone, and out of memory the basis is still one,
 //! with a module between the old and the new. For rows of 17 words `annihilator` gives the reduced basis of all rows on
 //! chosen positions whose sum of products with each member wraps to 0. What the rows mean is left to the crates above.
 //!
@@ -31,6 +31,6 @@ pub use basis::Basis;
 pub use meaning::{bases_tell_their_modules, modules_have_bases};
 pub use steps::Steps;
 
-/// Want of memory.
+/// Out of memory.
 #[derive(Clone, Copy, Debug, PartialEq, Eq)]
 pub struct Memory;

@@ -16,7 +16,7 @@ use row_modules::RowSet;
 use std::alloc::Global;
 
 /// The relations of a module. Bit i of `visible` stands for position i, and the constant's position 16 is always visible.
-/// There is no refusal but want of memory.
+/// There is no refusal but out of memory.
 pub fn relations(alloc: Global, module: &Basis<17>, visible: u32) -> Result<Relations, Memory>
     requires constant { IsTrue (has visible 16) }
     ensures unreached { IfOk result (λ r. (r ≡ Unreached) ↔ HasZeroAlone 17 (Contains «module».now)) }
