@@ -1,11 +1,9 @@
 -- The positions of some registers and of the constant, as bits.
-use Rattle.std.proofs.Common.{IsTrue, ◌==◌, ap, refl, ◌≡◌, ◌∙◌, ℕ, ◌+◌, ◌*◌, ◌%◌, ◌^◌, ◌<◌, ◌⊎◌, ◌↔◌, inl, inr, bit_or, w32, sym, lit<, arith}
+use Rattle.std.proofs.Common.{IsTrue, ◌==◌, ap, refl, ◌≡◌, ◌∙◌, ℕ, ◌+◌, ◌*◌, ◌%◌, ◌^◌, ◌<◌, ◌⊎◌, ◌↔◌, inl, inr, bit_or, w32, sym, arith}
 use Rattle.std.specs.Int.{bit_at}
 use Rattle.row_modules.specs.Positions.{has}
-use Rattle.std.proofs.Math.Nat.{mod-lt}
-use Rattle.std.proofs.lemmas.Nat.{pow_pos}
-use Rattle.std.proofs.lemmas.Bool.{cases_lt, cases_eq, false≢true}
-use Rattle.std.proofs.lemmas.Nat.Bits.{and_pow, bit_at-pow_same, bit_at-pow_other, bit_at_set_same, bit_at_set_other}
+use Rattle.std.proofs.lemmas.Bool.{cases_eq, false≢true}
+use Rattle.std.proofs.lemmas.Nat.Bits.{bit_at-pow_other, bit_at_set_same, bit_at_set_other}
 
 -- the first i positions, and position 16
 abbrev pub AreVisible : ℕ → ℕ → Type 0

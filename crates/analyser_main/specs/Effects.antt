@@ -12,7 +12,7 @@
 --   row_of registers f g c       the row of a sum over tracked registers
 --   assigned registers i value   position i gets the value, or any word where that isn't a sum of tracked registers
 --   effect_of registers a instr  the assignments of the instruction at the address a
-use Rattle.std.specs.Prelude.{ℕ, zero, ◌+◌, ◌-◌, ◌*◌, ◌%◌, ◌^◌, ℤ, negsuc, Bool, ◌||◌, ◌&&◌, nat_lt, List, [], ◌∷◌, length, Option, Some, None, is_some, position, slice_index, if◌then◌else◌, ◌==◌}
+use Rattle.std.specs.Prelude.{ℕ, zero, ◌+◌, ◌-◌, ◌^◌, ℤ, negsuc, Bool, ◌||◌, ◌&&◌, nat_lt, List, [], ◌∷◌, length, Option, Some, None, is_some, position, slice_index, if◌then◌else◌, ◌==◌}
 use Rattle.std.specs.Option.{option_map_or}
 use Rattle.std.specs.Int.{w64, cast_unsigned}
 use Rattle.flow_points.specs.Flows.{next, plus, upper_offset}
