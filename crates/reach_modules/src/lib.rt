@@ -1,0 +1,45 @@
+//! The states that reach each node of a program.
+//!
+//! For each node [`Reach`] holds a basis of the module that the states of all open paths to the node generate, from all
+//! starts. It is made from what procedures do: `solve::reach` takes a basis for each node, of the maps of the
+//! level paths to it, and `solve::reach_by_exits` one for each procedure, of the maps of its level paths to its exit. Rows go
+//! forward along edges, each once: as a list of assignments makes them, over a call as the callee's exit makes them, and
+//! into a callee by its opening. What relations hold of the states is left to the crates above.
+//!
+//! ```text
+//! let reached = solve::reach_by_exits(alloc, &program, exits.as_slice(), &mut steps)?;
+//! reached.at(node).member(&row)
+//! ```
+#![tactic(auto)]
+
+pub mod solve;
+
+ghost use Rattle.std.specs.Prelude.{◌≡◌, ◌<◌, length};
+ghost use Rattle.affine_prog.specs.Spans.{rows_at};
+
+use lead_basis::Basis;
+use std::marker::Model;
+
+/// For each node of a program, by its number, a basis of the module of the states that reach it.
+#[derive(Drop)]
+pub struct Reach {
+    bases: Vec<Basis<17>>,
+}
+
+impl Model for Reach {
+    ghost use Rattle.std.specs.Prelude.{ℕ, List};
+
+    ghost Value = { List (List (List ℕ)) };
+
+    ghost view = { λ r. r.bases.items };
+}
+
+impl Reach {
+    /// The basis of a node.
+    pub fn at(&self, node: u32) -> &Basis<17>
+        requires { node < length self.now }
+        ensures { result.now ≡ rows_at self.now node }
+    {
+        &self.bases[node as usize]
+    }
+}
