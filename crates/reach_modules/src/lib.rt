@@ -12,6 +12,7 @@
 //! ```
 #![tactic(auto)]
 
+mod made;
 pub mod solve;
 
 ghost use Rattle.std.specs.Prelude.{◌≡◌, ◌<◌, length};
@@ -19,11 +20,19 @@ ghost use Rattle.affine_prog.specs.Spans.{rows_at};
 
 use lead_basis::Basis;
 use std::marker::Model;
+use word_rows::Row;
 
 /// For each node of a program, by its number, a basis of the module of the states that reach it.
 #[derive(Drop)]
 pub struct Reach {
     bases: Vec<Basis<17>>,
+}
+
+/// A row that is offered to a node, or is still to be pushed from it.
+#[derive(Clone, Copy, Debug, PartialEq, Eq)]
+pub(crate) struct Offer {
+    node: u32,
+    row: Row<17>,
 }
 
 impl Model for Reach {

@@ -1,0 +1,167 @@
+-- What spans all that assignments, one after the other, can make of a row.
+use Rattle.std.proofs.Common.{◌≡◌, ℕ, zero, suc, ◌+◌, ◌*◌, ◌^◌, ◌<◌, ◌≤◌, inl, inr, List, [], ◌∷◌, ◌++◌, length, take, set, get_or, slice_index, replicate, Contains, All, drop, flat_map, Bool, true, false, refl, ap, ap₂, sym, subst, ◌∙◌, arith, if◌then◌else◌, ◌==◌}
+use Rattle.std.proofs.lemmas.Bool.{cases_eq, eq-eqb, ne_eqb}
+use Rattle.std.proofs.lemmas.List.{take_more, set-get_or}
+use Rattle.word_rows.specs.Words.{word}
+use Rattle.word_rows.specs.Rows.{words_of, plus, IsRow, dot}
+use Rattle.word_rows.proofs.Laws.{get_or-words_of, get_or-zeros, IsRow-zeros, words_of-plus_factor}
+use Rattle.row_modules.specs.Modules.{AreRows, none}
+use Rattle.row_modules.specs.Choices.{IsChoice}
+use Rattle.row_modules.proofs.Laws.{plus_zeros, first_or_later, contains_first, contains_later, nothing_contained, rows_with, spans_more, choices_span, generator, within_from_generators}
+use Rattle.map_modules.specs.Matrices.{identity, product, apply}
+use Rattle.map_modules.proofs.Sums.{word-word}
+use Rattle.map_modules.proofs.Entries.{IsRow-vector}
+use Rattle.map_modules.proofs.Products.{apply-identity}
+use Rattle.affine_prog.specs.declared.Assign.{Assign}
+use Rattle.affine_prog.specs.declared.Assign.TheVariants.{Affine, Any}
+use Rattle.affine_prog.specs.Assignments.{position_of, unknown_count, constant, assignment, Choice, matrix_of}
+use Rattle.reach_modules.specs.Made.{Makes, After, Spans, alone, images_of}
+use Rattle.reach_modules.specs.Moves.{IsMatrixOf}
+use Rattle.reach_modules.proofs.Assigning.{IsRow-set, plus-set, affine_is_product, constant_product}
+use Rattle.reach_modules.proofs.Spanning.{made_are_rows, spans_after, spans_same}
+use Rattle.reach_modules.proofs.Appending.{matrix_of-append, Choice-append, Choice-parts}
+
+-- a word alone, in a row
+pub alone_is_row : (k w : ℕ) → word w ≡ w → IsRow 17 (alone k w)
+alone_is_row k w e = subst (λ x. IsRow 17 (set (replicate 17 0) k x)) e (IsRow-set 17 k w (replicate 17 0) (IsRow-zeros 17))
+
+pub own_word : (v : List ℕ) (k : ℕ) → IsRow 17 v → word (slice_index v k) ≡ slice_index v k
+own_word v k row = sym (get_or-words_of v k) ∙ ap (λ ys. get_or ys k 0) row.words
+
+-- a word set to a multiple: the row with 0 there, and the multiple of the word alone
+pub set_multiple : (v : List ℕ) (k c x : ℕ) → IsRow 17 v → set v k (word (c * x)) ≡ words_of (plus c (set v k 0) (alone k x))
+set_multiple v k c x row =
+    let e : c * x ≡ 0 + c * x = omega arith in
+    ap (λ y. set v k (word y)) e ∙ ap (λ ys. set ys k (word (0 + c * x))) (sym (plus_zeros 17 c v row))
+    ∙ plus-set c k 0 x v (replicate 17 0) (row.width ∙ sym (IsRow-zeros 17).width)
+
+-- one assignment
+module _ (i : ℕ) (v : List ℕ) (below : i < 16) (row : IsRow 17 v) where
+  affine_made : (form words : List ℕ) → apply (matrix_of (Affine i form ∷ []) words) v ≡ set v i (dot form v)
+  affine_made form words = sym (affine_is_product i form v (omega arith) row)
+
+  unknown_made : (words : List ℕ) → apply (matrix_of (Any i ∷ []) words) v ≡ words_of (plus (slice_index words 0) (set v i 0) (alone i (slice_index v 16)))
+  unknown_made words =
+      sym (affine_is_product i (constant (slice_index words 0)) v (omega arith) row) ∙ ap (set v i) (constant_product (slice_index words 0) v row.width)
+      ∙ set_multiple v i (slice_index words 0) (slice_index v 16) row
+
+  without_row : IsRow 17 (set v i 0)
+  without_row = IsRow-set 17 i 0 v row
+
+  alone_row : IsRow 17 (alone i (slice_index v 16))
+  alone_row = alone_is_row i (slice_index v 16) (own_word v 16 row)
+
+  affine_spans : (form : List ℕ) → Spans (images_of (Affine i form) v) (Makes (IsMatrixOf (Affine i form ∷ [])) v)
+  affine_spans form =
+      let rows : AreRows 17 (Contains (set v i (dot form v) ∷ [])) = rows_with 17 (set v i (dot form v)) [] (rw (← affine_made form []) (IsRow-vector _)) (λ w h. absurd (nothing_contained w h)) in
+      record {
+        rows_are = rows;
+        same = record {
+          there = spans_more 17 (Contains (set v i (dot form v) ∷ [])) (Makes (IsMatrixOf (Affine i form ∷ [])) v)
+              (λ w h. elim (first_or_later (set v i (dot form v)) [] w h) [
+                | inl e ↦ (matrix_of (Affine i form ∷ []) [], ([], record { width = refl; words = refl }, refl), e ∙ sym (affine_made form []))
+                | inr k ↦ absurd (nothing_contained w k)
+              ]);
+          back = spans_more 17 (Makes (IsMatrixOf (Affine i form ∷ [])) v) (Contains (set v i (dot form v) ∷ []))
+              (λ w (m, (words, choice, is), e). rw (e ∙ ap (λ x. apply x v) is ∙ affine_made form words) (contains_first (set v i (dot form v)) []));
+        };
+      }
+
+  two_rows : AreRows 17 (Contains (set v i 0 ∷ alone i (slice_index v 16) ∷ []))
+  two_rows = rows_with 17 (set v i 0) (alone i (slice_index v 16) ∷ []) without_row (rows_with 17 (alone i (slice_index v 16)) [] alone_row (λ w h. absurd (nothing_contained w h)))
+
+  -- the choices of the unknown word
+  made_choice : (w : List ℕ) → Makes (IsMatrixOf (Any i ∷ [])) v w → IsChoice (set v i 0) (alone i (slice_index v 16) ∷ []) w
+  made_choice w (m, (words, choice, is), e) = (slice_index words 0, set v i 0, refl, e ∙ ap (λ x. apply x v) is ∙ unknown_made words)
+
+  choice_made : (w : List ℕ) → IsChoice (set v i 0) (alone i (slice_index v 16) ∷ []) w → Makes (IsMatrixOf (Any i ∷ [])) v w
+  choice_made w (c, u, k, e) = (
+    matrix_of (Any i ∷ []) (word c ∷ []),
+    (word c ∷ [], record { width = refl; words = ap (λ x. x ∷ []) (word-word c) }, refl),
+    e ∙ ap (λ x. words_of (plus c x (alone i (slice_index v 16)))) k ∙ sym (words_of-plus_factor c (set v i 0) (alone i (slice_index v 16))) ∙ sym (unknown_made (word c ∷ [])),
+  )
+
+  two_span : Spans (set v i 0 ∷ alone i (slice_index v 16) ∷ []) (Makes (IsMatrixOf (Any i ∷ [])) v)
+  two_span =
+      let same = choices_span 17 (set v i 0) without_row (alone i (slice_index v 16) ∷ []) (rows_with 17 (alone i (slice_index v 16)) [] alone_row (λ w h. absurd (nothing_contained w h))) in
+      record {
+        rows_are = two_rows;
+        same = record {
+          there = λ w h. spans_more 17 (IsChoice (set v i 0) (alone i (slice_index v 16) ∷ [])) (Makes (IsMatrixOf (Any i ∷ [])) v) choice_made w (same.back w h);
+          back = λ w h. same.there w (spans_more 17 (Makes (IsMatrixOf (Any i ∷ [])) v) (IsChoice (set v i 0) (alone i (slice_index v 16) ∷ [])) made_choice w h);
+        };
+      }
+
+-- rows of zeros may be left out
+pub zeros_alone : (k : ℕ) → alone k 0 ≡ replicate 17 0
+zeros_alone k = ap (set (replicate 17 0) k) (sym (get_or-zeros 17 k)) ∙ set-get_or (replicate 17 0) k 0
+
+pub unless_zero : (x : ℕ) (row : List ℕ) (rest : List (List ℕ)) (P : List ℕ → Type 0) → (x ≡ 0 → (v : List ℕ) → Contains rest v → v ≡ replicate 17 0) → Spans (row ∷ rest) P → Spans (row ∷ (if x == 0 then [] else rest)) P
+unless_zero x row rest P zeros s = elim (cases_eq x 0) [
+  | inl e ↦ subst (λ b. Spans (row ∷ (if b then [] else rest)) P) (sym (eq-eqb x 0 e)) (less_zeros (zeros e))
+  | inr ne ↦ subst (λ b. Spans (row ∷ (if b then [] else rest)) P) (sym (ne_eqb x 0 ne)) s
+] where
+  less_zeros : ((v : List ℕ) → Contains rest v → v ≡ replicate 17 0) → Spans (row ∷ []) P
+  less_zeros none_else =
+      let first : AreRows 17 (Contains (row ∷ [])) = rows_with 17 row [] (s.rows_are row (contains_first row rest)) (λ w h. absurd (nothing_contained w h)) in
+      record {
+        rows_are = first;
+        same = record {
+          there = λ w h. s.same.there w (spans_more 17 (Contains (row ∷ [])) (Contains (row ∷ rest))
+              (λ v k. elim (first_or_later row [] v k) [ inl e ↦ rw e (contains_first row rest) | inr l ↦ absurd (nothing_contained v l) ]) w h);
+          back = λ w h. within_from_generators 17 (Contains (row ∷ rest)) (Contains (row ∷ [])) first
+              (λ v k. elim (first_or_later row rest v k) [
+                | inl e ↦ generator 17 (Contains (row ∷ [])) first v (rw e (contains_first row []))
+                | inr l ↦ none v (none_else v l)
+              ]) w (s.same.back w h);
+        };
+      }
+
+pub one_spans : (assign : Assign) (v : List ℕ) → position_of assign < 16 → IsRow 17 v → Spans (images_of assign v) (Makes (IsMatrixOf (assign ∷ [])) v)
+one_spans (Affine i form) v below row = affine_spans i v below row form
+one_spans (Any i) v below row =
+    unless_zero (slice_index v 16) (set v i 0) (alone i (slice_index v 16) ∷ []) (Makes (IsMatrixOf (Any i ∷ [])) v)
+    (λ e w h. elim (first_or_later (alone i (slice_index v 16)) [] w h) [ inl f ↦ f ∙ ap (alone i) e ∙ zeros_alone i | inr k ↦ absurd (nothing_contained w k) ])
+    (two_span i v below row)
+
+-- a list and one assignment more
+pub more_assigned : (front : List Assign) (a : Assign) (m : List ℕ) → After (IsMatrixOf (a ∷ [])) (IsMatrixOf front) m → IsMatrixOf (front ++ a ∷ []) m
+more_assigned front a m (x, y, (v, chosen, is), (w, before, was), e) = (
+  w ++ v,
+  Choice-append front (a ∷ []) w v before chosen,
+  e ∙ ap₂ product is was ∙ sym (matrix_of-append front (a ∷ []) w v before.width),
+)
+
+pub less_assigned : (front : List Assign) (a : Assign) (m : List ℕ) → IsMatrixOf (front ++ a ∷ []) m → After (IsMatrixOf (a ∷ [])) (IsMatrixOf front) m
+less_assigned front a m (words, choice, is) =
+    let p = Choice-parts front (a ∷ []) words choice in (
+      matrix_of (a ∷ []) p.second,
+      matrix_of front p.first,
+      (p.second, p.second_choice, refl),
+      (p.first, p.first_choice, refl),
+      is ∙ ap (matrix_of (front ++ a ∷ [])) (sym p.both) ∙ matrix_of-append front (a ∷ []) p.first p.second p.first_choice.width,
+    )
+
+pub none_spans : (v : List ℕ) → IsRow 17 v → Spans (v ∷ []) (Makes (IsMatrixOf []) v)
+none_spans v row =
+    record {
+      rows_are = rows_with 17 v [] row (λ w h. absurd (nothing_contained w h));
+      same = record {
+        there = spans_more 17 (Contains (v ∷ [])) (Makes (IsMatrixOf []) v)
+            (λ w h. elim (first_or_later v [] w h) [
+              | inl e ↦ (identity 16, ([], record { width = refl; words = refl }, refl), e ∙ sym (apply-identity v row))
+              | inr k ↦ absurd (nothing_contained w k)
+            ]);
+        back = spans_more 17 (Makes (IsMatrixOf []) v) (Contains (v ∷ []))
+            (λ w (m, (words, choice, is), e). rw (e ∙ ap (λ x. apply x v) is ∙ apply-identity v row) (contains_first v []));
+      };
+    }
+
+-- the rows that the list so far makes, and one assignment more
+pub images_more : (assigns : List Assign) (i : ℕ) (v : List ℕ) (rows : List (List ℕ)) (d : Assign) → i < length assigns → All (λ a. position_of a < 16) assigns
+    → Spans rows (Makes (IsMatrixOf (take i assigns)) v) → Spans (flat_map (images_of (get_or assigns i d)) rows) (Makes (IsMatrixOf (take (i + 1) assigns)) v)
+images_more assigns i v rows d within placed so_far =
+    let a = get_or assigns i d in let front = take i assigns in
+    let e : take (i + 1) assigns ≡ front ++ a ∷ [] = take_more assigns i d within in
+    rw e (spans_same (After (IsMatrixOf (a ∷ [])) (IsMatrixOf front)) (IsMatrixOf (front ++ a ∷ [])) v (flat_map (images_of a) rows) (more_assigned front a) (less_assigned front a)
+    (spans_after (IsMatrixOf (a ∷ [])) (IsMatrixOf front) v rows (images_of a) so_far (λ x h. one_spans a x (placed i d within) (so_far.rows_are x h))))

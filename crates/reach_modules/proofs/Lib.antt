@@ -1,0 +1,6 @@
+mod Membership
+mod Positions
+mod Spanning
+mod Assigning
+mod Appending
+mod Imaging
