@@ -17,23 +17,10 @@ use Rattle.affine_prog.specs.declared.Assign.TheVariants.{Affine, Any}
 use Rattle.affine_prog.specs.Assignments.{position_of, unknown_count, constant, assignment, Choice, matrix_of}
 use Rattle.reach_modules.specs.Made.{Makes, After, Spans, alone, images_of}
 use Rattle.reach_modules.specs.Moves.{IsMatrixOf}
-use Rattle.reach_modules.proofs.Assigning.{IsRow-set, plus-set, affine_is_product, constant_product}
+use Rattle.reach_modules.proofs.Alone.{own_word, alone_is_row, zeros_alone, set_multiple}
+use Rattle.reach_modules.proofs.Assigning.{IsRow-set, affine_is_product, constant_product}
 use Rattle.reach_modules.proofs.Spanning.{made_are_rows, spans_after, spans_same}
 use Rattle.reach_modules.proofs.Appending.{matrix_of-append, Choice-append, Choice-parts}
-
--- a word alone, in a row
-pub alone_is_row : (k w : ℕ) → word w ≡ w → IsRow 17 (alone k w)
-alone_is_row k w e = subst (λ x. IsRow 17 (set (replicate 17 0) k x)) e (IsRow-set 17 k w (replicate 17 0) (IsRow-zeros 17))
-
-pub own_word : (v : List ℕ) (k : ℕ) → IsRow 17 v → word (slice_index v k) ≡ slice_index v k
-own_word v k row = sym (get_or-words_of v k) ∙ ap (λ ys. get_or ys k 0) row.words
-
--- a word set to a multiple: the row with 0 there, and the multiple of the word alone
-pub set_multiple : (v : List ℕ) (k c x : ℕ) → IsRow 17 v → set v k (word (c * x)) ≡ words_of (plus c (set v k 0) (alone k x))
-set_multiple v k c x row =
-    let e : c * x ≡ 0 + c * x = omega arith in
-    ap (λ y. set v k (word y)) e ∙ ap (λ ys. set ys k (word (0 + c * x))) (sym (plus_zeros 17 c v row))
-    ∙ plus-set c k 0 x v (replicate 17 0) (row.width ∙ sym (IsRow-zeros 17).width)
 
 -- one assignment
 module _ (i : ℕ) (v : List ℕ) (below : i < 16) (row : IsRow 17 v) where
@@ -93,9 +80,6 @@ module _ (i : ℕ) (v : List ℕ) (below : i < 16) (row : IsRow 17 v) where
       }
 
 -- rows of zeros may be left out
-pub zeros_alone : (k : ℕ) → alone k 0 ≡ replicate 17 0
-zeros_alone k = ap (set (replicate 17 0) k) (sym (get_or-zeros 17 k)) ∙ set-get_or (replicate 17 0) k 0
-
 pub unless_zero : (x : ℕ) (row : List ℕ) (rest : List (List ℕ)) (P : List ℕ → Type 0) → (x ≡ 0 → (v : List ℕ) → Contains rest v → v ≡ replicate 17 0) → Spans (row ∷ rest) P → Spans (row ∷ (if x == 0 then [] else rest)) P
 unless_zero x row rest P zeros s = elim (cases_eq x 0) [
   | inl e ↦ subst (λ b. Spans (row ∷ (if b then [] else rest)) P) (sym (eq-eqb x 0 e)) (less_zeros (zeros e))

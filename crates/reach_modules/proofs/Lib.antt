@@ -2,5 +2,7 @@ mod Membership
 mod Positions
 mod Spanning
 mod Assigning
+mod Alone
 mod Appending
 mod Imaging
+mod Openings
