@@ -6,3 +6,5 @@ mod Alone
 mod Appending
 mod Imaging
 mod Openings
+mod Returning
+mod Moving

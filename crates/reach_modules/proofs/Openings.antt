@@ -92,7 +92,7 @@ module _ (registers slots : ℕ) (v : List ℕ) (row : IsRow 17 v) where
   -- what a word at one slot adds
   one_slot : (k : ℕ) → k < 16 → has registers k ≡ false → has slots k ≡ true → apply (slot_words registers slots (set (replicate 16 0) k 1)) v ≡ alone k (slice_index v 16)
   one_slot k below apart member =
-      let c = slice_index v 16 in let words = set (replicate 16 0) k 1 in let made = apply (slot_words registers slots words) v in
+      let c : ℕ = slice_index v 16 in let words : List ℕ = set (replicate 16 0) k 1 in let made : List ℕ = apply (slot_words registers slots words) v in
       let here : word (word_given words k * c) ≡ c =
       ap (λ b. word (given (b || (k == 16)) (has slots k) (slice_index words k) * c)) apart ∙ ap (λ b. word (given b (has slots k) (slice_index words k) * c)) (ne_eqb k 16 (λ e. omega arith))
       ∙ ap (λ b. word (given false b (slice_index words k) * c)) member ∙ ap (λ w. word (w * c)) (get_or-set_same (replicate 16 0) k 1 0 below)
