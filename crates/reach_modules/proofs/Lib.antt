@@ -8,3 +8,5 @@ mod Imaging
 mod Openings
 mod Returning
 mod Moving
+mod Taking
+mod InTurn

@@ -13,6 +13,7 @@
 #![tactic(auto)]
 
 mod made;
+mod worklist;
 pub mod solve;
 
 ghost use Rattle.std.specs.Prelude.{◌≡◌, ◌<◌, length};
