@@ -147,5 +147,7 @@ pub images_more : (assigns : List Assign) (i : ℕ) (v : List ℕ) (rows : List 
 images_more assigns i v rows d within placed so_far =
     let a = get_or assigns i d in let front = take i assigns in
     let e : take (i + 1) assigns ≡ front ++ a ∷ [] = take_more assigns i d within in
-    rw e (spans_same (After (IsMatrixOf (a ∷ [])) (IsMatrixOf front)) (IsMatrixOf (front ++ a ∷ [])) v (flat_map (images_of a) rows) (more_assigned front a) (less_assigned front a)
-    (spans_after (IsMatrixOf (a ∷ [])) (IsMatrixOf front) v rows (images_of a) so_far (λ x h. one_spans a x (placed i d within) (so_far.rows_are x h))))
+    rw e (spans_same (flat_map (images_of a) rows) (Makes (After (IsMatrixOf (a ∷ [])) (IsMatrixOf front)) v) (Makes (IsMatrixOf (front ++ a ∷ [])) v)
+    (λ w (m, made, is). (m, more_assigned front a m made, is)) (λ w (m, made, is). (m, less_assigned front a m made, is))
+    (spans_after (IsMatrixOf (a ∷ [])) (IsMatrixOf front) v rows (flat_map (images_of a) rows) so_far
+    (record { by = images_of a; is = refl; each = λ x row. one_spans a x (placed i d within) row })))

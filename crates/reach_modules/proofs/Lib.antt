@@ -10,3 +10,7 @@ mod Returning
 mod Moving
 mod Taking
 mod InTurn
+mod Offering
+mod Lookups
+mod Along
+mod Starts

@@ -172,9 +172,12 @@ module _ (program : Program) (q : ℕ) (slots keep v : List ℕ) (apart : bit_an
       let b = (are k).0 h in let words = set (replicate 16 0) k 1 in
       less_first (IsCombination 17 (Makes (IsOpening program q) v)) (combinations 17 (Makes (IsOpening program q) v) made) (apply keep v) (alone k (slice_index v 16))
       (alone_is_row k (slice_index v 16) (own_word v 16 row)) kept_made
-      (generator 17 (Makes (IsOpening program q) v) made _ (opening_map program.registers (slots_of program q) words, (words, IsRow-set 16 k 1 (replicate 16 0) (IsRow-zeros 16), refl),
-      ap₂ (λ x y. words_of (plus 1 x y)) kept_is (sym (one_slot program.registers (slots_of program q) v row k b.0 (not_in_both program.registers (slots_of program q) k apart b.1) b.1))
-      ∙ sym (opening_sum program.registers (slots_of program q) v row words)))
+      (generator 17 (Makes (IsOpening program q) v) made _ (
+        opening_map program.registers (slots_of program q) words,
+        (words, IsRow-set 16 k 1 (replicate 16 0) (IsRow-zeros 16), refl),
+        ap₂ (λ x y. words_of (plus 1 x y)) kept_is (sym (one_slot program.registers (slots_of program q) v row k b.0 (not_in_both program.registers (slots_of program q) k apart b.1) b.1))
+            ∙ sym (opening_sum program.registers (slots_of program q) v row words),
+      ))
 
   all_span : Spans rows (Makes (IsOpening program q) v)
   all_span = record {

@@ -1,6 +1,7 @@
 -- What the loop over rows that are still to be pushed keeps.
 --
 --   EdgeOffers program e v offers         the offers span what the moves along the edge e make of the row v
+--   AlongOffers program ks v offers       so they do for the edges with these numbers
 --   Pushes program u v offers             the offers span what the moves from node u make of the row v
 --   IsClosed program done bases           what starts, and what moves make of done rows, lies in the modules
 --   IsSound program bases                 each module lies in that of the states that reach its node
@@ -17,11 +18,16 @@ use Rattle.affine_prog.specs.Spans.{rows_at, IsStateAt}
 use Rattle.reach_modules.specs.declared.Offer.{Offer}
 use Rattle.reach_modules.specs.Made.{Makes}
 use Rattle.reach_modules.specs.Moves.{EdgeMap, Moves, IsFirst}
+use Rattle.reach_modules.specs.Tables.{AlongSome}
 use Rattle.reach_modules.specs.Offers.{IsListed, IsOffer, InModule, Either}
 
 pub record EdgeOffers (program : Program) (e : Edge) (v : List ℕ) (offers : List Offer) : Type 0 where
   pub are : All (IsOffer program.nodes) offers
   pub spans : (w : ℕ) → SameModule 17 (IsListed offers w) (Makes (EdgeMap program e w) v)
+
+pub record AlongOffers (program : Program) (ks : List ℕ) (v : List ℕ) (offers : List Offer) : Type 0 where
+  pub are : All (IsOffer program.nodes) offers
+  pub spans : (w : ℕ) → SameModule 17 (IsListed offers w) (Makes (AlongSome program ks w) v)
 
 pub record Pushes (program : Program) (u : ℕ) (v : List ℕ) (offers : List Offer) : Type 0 where
   pub are : All (IsOffer program.nodes) offers

@@ -12,14 +12,16 @@
 //! ```
 #![tactic(auto)]
 
+mod edges;
 mod made;
-mod worklist;
 pub mod solve;
+mod worklist;
 
 ghost use Rattle.std.specs.Prelude.{◌≡◌, ◌<◌, length};
 ghost use Rattle.affine_prog.specs.Spans.{rows_at};
 
 use lead_basis::Basis;
+use sqlite_items::Items;
 use std::marker::Model;
 use word_rows::Row;
 
@@ -34,6 +36,15 @@ pub struct Reach {
 pub(crate) struct Offer {
     node: u32,
     row: Row<17>,
+}
+
+/// Where the edges that leave a node, and the basis of a procedure's exit, are found.
+#[derive(Drop)]
+pub(crate) struct Tables {
+    /// For each node the numbers of the edges that leave it.
+    out: Vec<Items<u32>>,
+    /// For each procedure the place of the basis of its exit.
+    places: Items<u32>,
 }
 
 impl Model for Reach {
