@@ -1,12 +1,12 @@
 -- Words alone in a row, and rows that are made up of them.
 use Rattle.std.proofs.Common.{◌≡◌, ℕ, zero, suc, ◌+◌, ◌-◌, ◌*◌, ◌^◌, ◌<◌, ◌≤◌, inl, inr, List, [], ◌∷◌, length, set, get_or, slice_index, replicate, refl, ap, ap₂, sym, subst, ◌∙◌, arith}
 use Rattle.std.proofs.Math.Nat.{add-mul-mod_self_left}
-use Rattle.std.proofs.lemmas.Bool.{cases_eq, cases_lt}
+use Rattle.std.proofs.lemmas.Bool.{cases_eq}
 use Rattle.std.proofs.lemmas.Grind.{same_number_lists}
 use Rattle.std.proofs.lemmas.List.{get_or-set_same, get_or-set_other, set-get_or}
 use Rattle.word_rows.specs.Words.{word}
-use Rattle.word_rows.specs.Rows.{words_of, plus, times, IsRow}
-use Rattle.word_rows.proofs.Laws.{get_or-words_of, get_or-wrapped_plus, get_or-zeros, words_of-plus_first, IsRow-zeros, IsRow-plus}
+use Rattle.word_rows.specs.Rows.{words_of, plus, IsRow}
+use Rattle.word_rows.proofs.Laws.{get_or-words_of, get_or-wrapped_plus, get_or-zeros, words_of-plus_first, IsRow-zeros}
 use Rattle.row_modules.specs.Modules.{IsModule}
 use Rattle.row_modules.proofs.Laws.{plus_zeros, zeros-plus, module_multiple}
 use Rattle.reach_modules.specs.Made.{alone}

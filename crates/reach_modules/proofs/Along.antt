@@ -7,7 +7,7 @@ use Rattle.affine_prog.specs.declared.Kind.TheVariants.{Do, Call}
 use Rattle.affine_prog.specs.declared.Assign.{Assign}
 use Rattle.affine_prog.specs.Programs.{edge, entry_of, slots_of, owner_of, IsKindIn, IsWellFormed}
 use Rattle.reach_modules.specs.declared.Offer.{Offer}
-use Rattle.reach_modules.specs.Made.{Makes, After, Spans, MakesEach}
+use Rattle.reach_modules.specs.Made.{Makes, Spans, MakesEach}
 use Rattle.reach_modules.specs.Moves.{IsMatrixOf, IsOpening, IsReturn}
 use Rattle.reach_modules.specs.Offers.{offer}
 use Rattle.reach_modules.specs.Worklists.{EdgeOffers}

@@ -1,5 +1,5 @@
 -- Lists of assignments, one after the other: their choices, and their matrices.
-use Rattle.std.proofs.Common.{◌≡◌, ℕ, zero, suc, ◌+◌, List, [], ◌∷◌, ◌++◌, length, take, drop, map, refl, ap, ap₂, sym, ◌∙◌, arith}
+use Rattle.std.proofs.Common.{◌≡◌, ℕ, ◌+◌, List, [], ◌∷◌, ◌++◌, length, take, drop, ap, ap₂, sym, ◌∙◌, arith}
 use Rattle.std.proofs.lemmas.List.{length-append, length-take, length-drop, take-append-drop, map-append, take-map, drop-map}
 use Rattle.word_rows.specs.Words.{word}
 use Rattle.word_rows.specs.Rows.{IsRow}

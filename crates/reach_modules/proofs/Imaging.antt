@@ -1,25 +1,25 @@
 -- What spans all that assignments, one after the other, can make of a row.
-use Rattle.std.proofs.Common.{◌≡◌, ℕ, zero, suc, ◌+◌, ◌*◌, ◌^◌, ◌<◌, ◌≤◌, inl, inr, List, [], ◌∷◌, ◌++◌, length, take, set, get_or, slice_index, replicate, Contains, All, drop, flat_map, Bool, true, false, refl, ap, ap₂, sym, subst, ◌∙◌, arith, if◌then◌else◌, ◌==◌}
+use Rattle.std.proofs.Common.{◌≡◌, ℕ, ◌+◌, ◌<◌, inl, inr, List, [], ◌∷◌, ◌++◌, length, take, set, get_or, slice_index, replicate, Contains, All, flat_map, refl, ap, ap₂, sym, subst, ◌∙◌, arith, if◌then◌else◌, ◌==◌}
 use Rattle.std.proofs.lemmas.Bool.{cases_eq, eq-eqb, ne_eqb}
-use Rattle.std.proofs.lemmas.List.{take_more, set-get_or}
+use Rattle.std.proofs.lemmas.List.{take_more}
 use Rattle.word_rows.specs.Words.{word}
 use Rattle.word_rows.specs.Rows.{words_of, plus, IsRow, dot}
-use Rattle.word_rows.proofs.Laws.{get_or-words_of, get_or-zeros, IsRow-zeros, words_of-plus_factor}
+use Rattle.word_rows.proofs.Laws.{words_of-plus_factor}
 use Rattle.row_modules.specs.Modules.{AreRows, none}
 use Rattle.row_modules.specs.Choices.{IsChoice}
-use Rattle.row_modules.proofs.Laws.{plus_zeros, first_or_later, contains_first, contains_later, nothing_contained, rows_with, spans_more, choices_span, generator, within_from_generators}
+use Rattle.row_modules.proofs.Laws.{first_or_later, contains_first, nothing_contained, rows_with, spans_more, choices_span, generator, within_from_generators}
 use Rattle.map_modules.specs.Matrices.{identity, product, apply}
 use Rattle.map_modules.proofs.Sums.{word-word}
 use Rattle.map_modules.proofs.Entries.{IsRow-vector}
 use Rattle.map_modules.proofs.Products.{apply-identity}
 use Rattle.affine_prog.specs.declared.Assign.{Assign}
 use Rattle.affine_prog.specs.declared.Assign.TheVariants.{Affine, Any}
-use Rattle.affine_prog.specs.Assignments.{position_of, unknown_count, constant, assignment, Choice, matrix_of}
+use Rattle.affine_prog.specs.Assignments.{position_of, constant, matrix_of}
 use Rattle.reach_modules.specs.Made.{Makes, After, Spans, alone, images_of}
 use Rattle.reach_modules.specs.Moves.{IsMatrixOf}
 use Rattle.reach_modules.proofs.Alone.{own_word, alone_is_row, zeros_alone, set_multiple}
 use Rattle.reach_modules.proofs.Assigning.{IsRow-set, affine_is_product, constant_product}
-use Rattle.reach_modules.proofs.Spanning.{made_are_rows, spans_after, spans_same}
+use Rattle.reach_modules.proofs.Spanning.{spans_after, spans_same}
 use Rattle.reach_modules.proofs.Appending.{matrix_of-append, Choice-append, Choice-parts}
 
 -- one assignment

@@ -1,15 +1,14 @@
 -- Offers that are taken in turn.
-use Rattle.std.proofs.Common.{◌≡◌, ℕ, zero, suc, ◌<◌, ◌+◌, ◌≤◌, ◌⊎◌, inl, inr, List, [], ◌∷◌, ◌++◌, Contains, All, length, take, drop, get_or, refl, ap, sym, subst, ◌∙◌, arith}
-use Rattle.std.proofs.lemmas.List.Elements.{Contains-append_left, Contains-append_right, Contains-append_cases, All-contains, All-head, All-tail, All-take, Contains-get_or}
+use Rattle.std.proofs.Common.{◌≡◌, ℕ, zero, suc, ◌<◌, ◌+◌, inl, inr, List, [], ◌∷◌, ◌++◌, Contains, All, length, take, drop, get_or, refl, ap, sym, subst, ◌∙◌, arith}
+use Rattle.std.proofs.lemmas.List.Elements.{Contains-append_left, Contains-append_right, Contains-append_cases, All-contains, All-head, All-tail, All-take}
 use Rattle.std.proofs.lemmas.List.{take_more, take-append-drop}
-use Rattle.word_rows.specs.Rows.{IsRow}
 use Rattle.lead_basis.proofs.Laws.{basis_rows}
-use Rattle.row_modules.specs.Modules.{AreRows, IsCombination, IsWithin}
-use Rattle.row_modules.specs.Bases.{IsLeadingBasis, basis_length}
-use Rattle.row_modules.proofs.Laws.{spans_more, module_least, nothing_contained, generator, within_from_generators}
+use Rattle.row_modules.specs.Modules.{AreRows, IsWithin}
+use Rattle.row_modules.specs.Bases.{IsLeadingBasis}
+use Rattle.row_modules.proofs.Laws.{spans_more, generator, within_from_generators}
 use Rattle.reach_modules.specs.declared.Offer.{Offer}
 use Rattle.affine_prog.specs.Spans.{rows_at}
-use Rattle.reach_modules.specs.Offers.{offer, IsListed, IsOffer, InModule, Either, total, Keeps, Takes}
+use Rattle.reach_modules.specs.Offers.{offer, IsListed, IsOffer, Either, Keeps, Takes}
 
 pub keeps_none : (old : List (List (List ℕ))) (before : ℕ) → Keeps [] old old before before
 keeps_none old before = record {

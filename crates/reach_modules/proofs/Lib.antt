@@ -14,3 +14,6 @@ mod Offering
 mod Lookups
 mod Along
 mod Starts
+mod Working
+mod Placing
+mod Starting

@@ -1,5 +1,5 @@
 -- What is looked up by number in a well-formed program, and along its edges.
-use Rattle.std.proofs.Common.{◌≡◌, ℕ, suc, ◌<◌, List, [], ◌∷◌, Contains, All, map, flat_map, length, get_or, bit_and, refl, ap, sym, subst, ◌∙◌, arith}
+use Rattle.std.proofs.Common.{◌≡◌, ℕ, suc, ◌<◌, List, [], Contains, All, map, flat_map, length, get_or, bit_and, ap, sym, subst, ◌∙◌, arith}
 use Rattle.std.proofs.lemmas.List.{get_or-map, length-map, get_or_default}
 use Rattle.std.proofs.lemmas.List.Elements.{All-contains, All-weaker, All-contains_itself, Contains-get_or}
 use Rattle.row_modules.specs.Modules.{AreRows, SameModule}
@@ -10,7 +10,7 @@ use Rattle.affine_prog.specs.declared.Proc.{Proc}
 use Rattle.affine_prog.specs.declared.Kind.TheVariants.{Do, Call}
 use Rattle.affine_prog.specs.declared.Assign.{Assign}
 use Rattle.affine_prog.specs.Assignments.{position_of}
-use Rattle.affine_prog.specs.Programs.{edge, entry_of, slots_of, owner_of, IsEdgeOf, IsWellFormed}
+use Rattle.affine_prog.specs.Programs.{edge, entry_of, slots_of, IsEdgeOf, IsWellFormed}
 use Rattle.affine_prog.specs.Spans.{IsMapOf}
 use Rattle.affine_prog.proofs.Paths.{step_placed, call_placed}
 use Rattle.reach_modules.specs.Made.{MakesEach, opened_of, returned_of}

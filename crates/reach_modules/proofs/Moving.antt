@@ -1,22 +1,20 @@
 -- Open paths are made of moves: an open path and a move are one, and what has the first states and is closed under moves has
 -- the states of all open paths.
-use Rattle.std.proofs.Common.{◌≡◌, inl, inr, ℕ, ◌<◌, List, Contains, length, refl, ap, sym, subst, ◌∙◌}
+use Rattle.std.proofs.Common.{◌≡◌, inl, inr, ℕ, List, Contains, refl, ap, sym, subst, ◌∙◌}
 use Rattle.std.proofs.lemmas.List.Elements.{All-contains}
 use Rattle.word_rows.specs.Rows.{IsRow}
 use Rattle.map_modules.specs.Matrices.{product, apply, extension}
 use Rattle.map_modules.proofs.Products.{product-product, apply-product}
 use Rattle.affine_prog.specs.declared.Program.{Program}
-use Rattle.affine_prog.specs.declared.Edge.{Edge}
 use Rattle.affine_prog.specs.declared.Kind.{Kind}
 use Rattle.affine_prog.specs.declared.Kind.TheVariants.{Do, Call}
-use Rattle.affine_prog.specs.declared.Assign.{Assign}
-use Rattle.affine_prog.specs.Programs.{edge, entry_of, exit_of, slots_of, owner_of, IsEdgeOf, IsWellFormed}
-use Rattle.affine_prog.specs.Assignments.{Choice, matrix_of}
+use Rattle.affine_prog.specs.Programs.{edge, entry_of, slots_of, owner_of, IsEdgeOf, IsWellFormed}
+use Rattle.affine_prog.specs.Assignments.{matrix_of}
 use Rattle.affine_prog.specs.LevelPaths.{opening_map, LevelPath, opening, step, call}
 use Rattle.affine_prog.specs.OpenPaths.{Start, OpenPath, first, enter}
 use Rattle.affine_prog.specs.Spans.{IsStateAt}
 use Rattle.affine_prog.specs.Laws.{LevelPathsStay}
-use Rattle.reach_modules.specs.Moves.{IsMatrixOf, IsOpening, IsReturn, KindMap, Moves, IsFirst}
+use Rattle.reach_modules.specs.Moves.{KindMap, Moves, IsFirst}
 
 -- the last level path of an open path, and what it begins from
 record Last (program : Program) (start : List ℕ) (u : ℕ) (s : List ℕ) : Type 0 where

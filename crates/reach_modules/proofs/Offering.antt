@@ -1,9 +1,8 @@
 -- What is offered along edges spans what their moves make of a row.
-use Rattle.std.proofs.Common.{◌≡◌, ◌⊎◌, inl, inr, ℕ, ◌+◌, ◌<◌, List, [], ◌∷◌, ◌++◌, Contains, All, map, flat_map, take, get_or, length, refl, ap, sym, subst, ◌∙◌, arith}
-use Rattle.std.proofs.lemmas.List.{take_more, get_or_default}
+use Rattle.std.proofs.Common.{◌≡◌, inl, inr, ℕ, ◌<◌, List, [], ◌∷◌, ◌++◌, Contains, All, map, get_or, length, ap, subst, ◌∙◌, arith}
+use Rattle.std.proofs.lemmas.List.{get_or_default}
 use Rattle.std.proofs.lemmas.List.Elements.{Contains-append_left, Contains-append_right, Contains-append_cases, All-weaker, All-contains_itself, All-contains}
-use Rattle.word_rows.specs.Rows.{IsRow}
-use Rattle.row_modules.specs.Modules.{AreRows, IsCombination, SameModule}
+use Rattle.row_modules.specs.Modules.{AreRows, IsCombination}
 use Rattle.row_modules.proofs.Laws.{generator, spans_more, within_from_generators}
 use Rattle.affine_prog.specs.declared.Program.{Program}
 use Rattle.affine_prog.specs.declared.Edge.{Edge}
@@ -16,7 +15,7 @@ use Rattle.reach_modules.specs.Moves.{IsMatrixOf, IsOpening, IsReturn, EdgeMap, 
 use Rattle.reach_modules.specs.Offers.{offer, IsListed, IsOffer}
 use Rattle.reach_modules.specs.Tables.{edge_at, AreOut, AlongSome}
 use Rattle.reach_modules.specs.Worklists.{EdgeOffers, AlongOffers, Pushes}
-use Rattle.reach_modules.proofs.Membership.{nothing_in, first_in, later_in, first_or_later_in, map_in, map_out}
+use Rattle.reach_modules.proofs.Membership.{nothing_in, first_in, first_or_later_in, map_in, map_out}
 use Rattle.reach_modules.proofs.Spanning.{made_are_rows}
 
 -- rows that are offered to one node

@@ -1,5 +1,5 @@
 -- What spans all that an opening can make of a row.
-use Rattle.std.proofs.Common.{◌≡◌, ℕ, zero, suc, ◌+◌, ◌*◌, ◌<◌, ◌↔◌, inl, inr, List, [], ◌∷◌, length, set, get_or, slice_index, replicate, map, Contains, Bool, true, false, IsTrue, refl, ap, ap₂, sym, subst, ◌∙◌, arith, if◌then◌else◌, ◌==◌, ◌&&◌, ◌||◌, bit_and, min, nat_lt}
+use Rattle.std.proofs.Common.{◌≡◌, ℕ, ◌*◌, ◌<◌, inl, inr, List, ◌∷◌, set, slice_index, replicate, map, Contains, Bool, true, false, IsTrue, refl, ap, ap₂, sym, ◌∙◌, arith, if◌then◌else◌, ◌==◌, ◌&&◌, ◌||◌, bit_and, min, nat_lt}
 use Rattle.std.specs.Int.{bit_at}
 use Rattle.std.proofs.lemmas.Bool.{cases_eq, cases_lt, lt-ltb, eq-eqb, ne_eqb, false≢true}
 use Rattle.std.proofs.lemmas.Grind.{same_number_lists}
@@ -9,9 +9,9 @@ use Rattle.word_rows.specs.Words.{word}
 use Rattle.word_rows.specs.Rows.{words_of, plus, IsRow}
 use Rattle.word_rows.proofs.Laws.{get_or-zeros, IsRow-zeros}
 use Rattle.row_modules.specs.Modules.{AreRows, IsCombination, IsModule}
-use Rattle.row_modules.proofs.Laws.{combinations, generator, first_or_later, contains_first, contains_later, within_from_generators, rows_with}
+use Rattle.row_modules.proofs.Laws.{combinations, generator, first_or_later, contains_first, contains_later, within_from_generators}
 use Rattle.map_modules.specs.Positions.{has}
-use Rattle.map_modules.specs.Matrices.{entry, matrix, sum_below, identity, apply, linear_extension}
+use Rattle.map_modules.specs.Matrices.{entry, sum_below, identity, apply, linear_extension}
 use Rattle.map_modules.proofs.Conditions.{and_true, or_true, same_tests}
 use Rattle.map_modules.proofs.Sums.{word-word, word-mul, sum_below_same, sum_below_pick}
 use Rattle.map_modules.proofs.Entries.{entry-matrix, IsRow-matrix, same_matrix, get_or-vector, IsRow-vector}
@@ -21,7 +21,7 @@ use Rattle.affine_prog.specs.Programs.{slots_of}
 use Rattle.affine_prog.specs.LevelPaths.{opening_map}
 use Rattle.affine_prog.specs.Laws.{slot_words}
 use Rattle.affine_prog.proofs.Calls.{opening_map-zeros}
-use Rattle.reach_modules.specs.Made.{Makes, Spans, alone, opened, opened_of}
+use Rattle.reach_modules.specs.Made.{Makes, Spans, alone, opened_of}
 use Rattle.reach_modules.specs.Moves.{IsOpening}
 use Rattle.reach_modules.specs.Tables.{ArePositions}
 use Rattle.reach_modules.proofs.Membership.{map_in, map_out}

@@ -1,6 +1,5 @@
 -- What spans all that a callee, as its caller sees it, makes of a row.
-use Rattle.std.proofs.Common.{◌≡◌, ℕ, List, Contains, map, refl, ap, sym, ◌∙◌, arith}
-use Rattle.word_rows.specs.Rows.{IsRow}
+use Rattle.std.proofs.Common.{◌≡◌, ℕ, List, Contains, refl, ap, sym, ◌∙◌, arith}
 use Rattle.row_modules.specs.Modules.{AreRows, IsCombination, SameModule}
 use Rattle.row_modules.specs.Maps.{IsLinear}
 use Rattle.row_modules.proofs.Laws.{combinations, generator, mapped_into, within_from_generators}

@@ -1,5 +1,5 @@
 -- What sets of matrices make of rows, and what spans it.
-use Rattle.std.proofs.Common.{◌≡◌, ℕ, List, Contains, flat_map, refl, ap, sym, ◌∙◌}
+use Rattle.std.proofs.Common.{ℕ, List, Contains, flat_map, refl, ap, sym, ◌∙◌}
 use Rattle.row_modules.specs.Modules.{AreRows, IsCombination, IsModule}
 use Rattle.row_modules.specs.Maps.{IsLinear, Products}
 use Rattle.row_modules.proofs.Laws.{combinations, generator, mapped_into, module_least, spans_more, within_from_generators}
@@ -16,7 +16,7 @@ apply_is_linear m = record { rows = λ v r. IsRow-vector _; sum = apply_second m
 pub made_are_rows : (M : List ℕ → Type 0) (v : List ℕ) → AreRows 17 (Makes M v)
 made_are_rows M v w (m, in_m, e) = rw e (IsRow-vector _)
 
-products_are_rows : (M P : List ℕ → Type 0) → AreRows 17 (Products apply M P)
+pub products_are_rows : (M P : List ℕ → Type 0) → AreRows 17 (Products apply M P)
 products_are_rows M P w p = let e = p.is in rw e (IsRow-vector _)
 
 -- where the rows of a set go into a module, so do those of its module

@@ -1,8 +1,8 @@
 -- What spans the starts.
-use Rattle.std.proofs.Common.{◌≡◌, ℕ, ◌+◌, ◌*◌, ◌<◌, inl, inr, List, [], ◌∷◌, Contains, map, slice_index, replicate, Bool, true, false, IsTrue, refl, ap, ap₂, sym, ◌∙◌, arith}
-use Rattle.std.proofs.lemmas.Bool.{cases_eq, cases_lt, false≢true}
+use Rattle.std.proofs.Common.{◌≡◌, ℕ, ◌+◌, ◌*◌, ◌<◌, inl, inr, List, ◌∷◌, Contains, map, slice_index, Bool, true, false, IsTrue, refl, ap, ap₂, sym, ◌∙◌, arith}
+use Rattle.std.proofs.lemmas.Bool.{cases_lt, false≢true}
 use Rattle.word_rows.specs.Words.{word}
-use Rattle.word_rows.specs.Rows.{words_of, plus, IsRow, IsState}
+use Rattle.word_rows.specs.Rows.{words_of, plus}
 use Rattle.word_rows.proofs.Laws.{get_or-wrapped_plus, IsRow-plus}
 use Rattle.row_modules.specs.Modules.{AreRows, IsCombination}
 use Rattle.row_modules.proofs.Laws.{combinations, generator, first_or_later, contains_first, contains_later, within_from_generators}
@@ -17,12 +17,12 @@ use Rattle.reach_modules.proofs.Alone.{own_word, alone_is_row, alone_at, alone_e
 one_word : word 1 ≡ 1
 one_word = refl
 
+pub starts_are_rows : (program : Program) → AreRows 17 (Start program)
+starts_are_rows program v s = s.state.row
+
 module _ (program : Program) (registers : List ℕ) (are : ArePositions program.registers registers) where
   abbrev rows : List (List ℕ)
   rows = alone 16 1 ∷ map (λ k. alone k 1) registers
-
-  starts_are_rows : AreRows 17 (Start program)
-  starts_are_rows v s = s.state.row
 
   rows_are : AreRows 17 (Contains rows)
   rows_are v h = elim (first_or_later (alone 16 1) (map (λ k. alone k 1) registers) v h) [
@@ -54,8 +54,8 @@ module _ (program : Program) (registers : List ℕ) (are : ArePositions program.
   register_in : (k : ℕ) → Contains registers k → IsCombination 17 (Start program) (alone k 1)
   register_in k h =
       let b = (are k).0 h in
-      less_first (IsCombination 17 (Start program)) (combinations 17 (Start program) starts_are_rows) (alone 16 1) (alone k 1) (alone_is_row k 1 one_word)
-      (generator 17 (Start program) starts_are_rows (alone 16 1) least_start) (generator 17 (Start program) starts_are_rows _ (unit_start k b.0 b.1))
+      less_first (IsCombination 17 (Start program)) (combinations 17 (Start program) (starts_are_rows program)) (alone 16 1) (alone k 1) (alone_is_row k 1 one_word)
+      (generator 17 (Start program) (starts_are_rows program) (alone 16 1) least_start) (generator 17 (Start program) (starts_are_rows program) _ (unit_start k b.0 b.1))
 
   word_in : (v : List ℕ) → Start program v → (k : ℕ) → k < 17 → IsCombination 17 (Contains rows) (alone k (slice_index v k))
   word_in v s k below = elim (cases_lt k 16) [
@@ -76,9 +76,9 @@ module _ (program : Program) (registers : List ℕ) (are : ArePositions program.
   starts_span = record {
     rows_are = rows_are;
     same = record {
-      there = within_from_generators 17 (Contains rows) (Start program) starts_are_rows
+      there = within_from_generators 17 (Contains rows) (Start program) (starts_are_rows program)
           (λ v h. elim (first_or_later (alone 16 1) (map (λ k. alone k 1) registers) v h) [
-            | inl e ↦ rw e (generator 17 (Start program) starts_are_rows (alone 16 1) least_start)
+            | inl e ↦ rw e (generator 17 (Start program) (starts_are_rows program) (alone 16 1) least_start)
             | inr l ↦ let i = map_out (λ k. alone k 1) registers v l in rw (i.2) (register_in i.0 i.1)
           ]);
       back = within_from_generators 17 (Start program) (Contains rows) rows_are

@@ -1,19 +1,19 @@
 -- What taking one offer does, and several in turn.
-use Rattle.std.proofs.Common.{◌≡◌, ℕ, ◌<◌, ◌+◌, ◌≤◌, ◌⊎◌, inl, inr, zero, suc, length-append, List, [], ◌∷◌, ◌++◌, Contains, All, length, get_or, set, refl, ap, sym, subst, ◌∙◌, arith}
+use Rattle.std.proofs.Common.{◌≡◌, ℕ, ◌<◌, ◌+◌, ◌≤◌, inl, inr, zero, suc, length-append, List, [], ◌∷◌, ◌++◌, Contains, length, get_or, set, refl, ap, sym, subst, ◌∙◌, arith}
 use Rattle.std.proofs.lemmas.Bool.{cases_eq}
 use Rattle.std.proofs.Math.ListN.{length-set}
 use Rattle.std.proofs.lemmas.List.{get_or-set_same, get_or-set_other, get_or_default}
 use Rattle.std.proofs.lemmas.List.Elements.{All-set, Contains-append_left, Contains-append_right, Contains-append_cases}
 use Rattle.std.proofs.lemmas.List.Sums.{sum_by-set}
-use Rattle.row_modules.specs.Modules.{AreRows, IsCombination, IsWithin}
+use Rattle.row_modules.specs.Modules.{IsCombination, IsWithin}
 use Rattle.row_modules.specs.Bases.{IsLeadingBasis, basis_length}
-use Rattle.row_modules.proofs.Laws.{spans_more, first_or_later, contains_first, contains_later, nothing_contained, generator, within_from_generators}
+use Rattle.row_modules.proofs.Laws.{spans_more, first_or_later, generator, within_from_generators}
 use Rattle.lead_basis.proofs.Laws.{basis_rows}
 use Rattle.lead_basis.specs.Inserts.{IsBetween}
 use Rattle.reach_modules.specs.declared.Offer.{Offer}
 use Rattle.affine_prog.specs.Spans.{rows_at}
 use Rattle.reach_modules.specs.Counts.{row_count}
-use Rattle.reach_modules.specs.Offers.{offer, IsListed, InModule, Either, total, Keeps, Takes}
+use Rattle.reach_modules.specs.Offers.{offer, IsListed, InModule, Either, Keeps, Takes}
 
 -- one node's rows are replaced
 module _ (old : List (List (List ℕ))) (u : ℕ) (new : List (List ℕ)) (within : u < length old) where

@@ -7,8 +7,8 @@
 --   IsSound program bases                 each module lies in that of the states that reach its node
 --   IsWorking program done bases pending  what the loop keeps, the rows that were pushed being done
 --   Works program bases pending           that, for some done rows
-use Rattle.std.specs.Prelude.{◌≡◌, ℕ, ◌<◌, List, All, Contains, length}
-use Rattle.row_modules.specs.Modules.{IsCombination, IsWithin, SameModule}
+use Rattle.std.specs.Prelude.{◌≡◌, ℕ, List, All, Contains, length}
+use Rattle.row_modules.specs.Modules.{IsWithin, SameModule}
 use Rattle.row_modules.specs.Bases.{IsLeadingBasis}
 use Rattle.map_modules.specs.Matrices.{apply}
 use Rattle.affine_prog.specs.declared.Program.{Program}

@@ -22,7 +22,11 @@ use std::alloc::Global;
 use word_rows::Row;
 
 /// Offers rows to a node.
-fn offer_all(offers: &mut Items<Offer>, node: u32, rows: &[Row<17>]) -> Result<(), Memory>
+pub(crate) fn offer_all(
+    offers: &mut Items<Offer>,
+    node: u32,
+    rows: &[Row<17>],
+) -> Result<(), Memory>
     ensures { OnOk result (offers.new ≡ offers.old ++ map (λ v. offer node v) rows.now) }
 {
     for row in rows {
@@ -49,13 +53,13 @@ fn sets_of(program: &Program, p: u32) -> (u16, u16)
 }
 
 /// The maps that span what a procedure does from its entry to its exit.
-fn exit_rows<'a>(program: &Program, bases: &'a [MatBasis], places: &[u32], q: u32) -> &'a [Mat]
+fn exit_rows<'a>(program: &Program, bases: &'a [MatBasis], places: &[usize], q: u32) -> &'a [Mat]
     requires places { ArePlaces program.now bases.now places.now }
     requires proc { q < length program.now.procs }
     ensures rows { AreRows 289 (Contains result.now) }
     ensures exact { SameModule 289 (Contains result.now) (IsMapOf program.now q) }
 {
-    let basis = &bases[places[q as usize] as usize];
+    let basis = &bases[places[q as usize]];
     basis.known();
     basis.rows()
 }
@@ -65,7 +69,7 @@ fn returned(
     alloc: Global,
     program: &Program,
     bases: &[MatBasis],
-    places: &[u32],
+    places: &[usize],
     from: u32,
     callee: u32,
     rows: &[Row<17>],
@@ -102,7 +106,7 @@ fn edge_offers(
     alloc: Global,
     program: &Program,
     bases: &[MatBasis],
-    places: &[u32],
+    places: &[usize],
     edge: &Edge,
     row: &Row<17>,
 ) -> Result<Items<Offer>, Memory>

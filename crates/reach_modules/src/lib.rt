@@ -14,7 +14,9 @@
 
 mod edges;
 mod made;
+mod places;
 pub mod solve;
+mod start;
 mod worklist;
 
 ghost use Rattle.std.specs.Prelude.{◌≡◌, ◌<◌, length};
@@ -44,7 +46,7 @@ pub(crate) struct Tables {
     /// For each node the numbers of the edges that leave it.
     out: Vec<Items<u32>>,
     /// For each procedure the place of the basis of its exit.
-    places: Items<u32>,
+    places: Items<usize>,
 }
 
 impl Model for Reach {

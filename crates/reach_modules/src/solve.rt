@@ -1,14 +1,19 @@
-//! The states that reach the nodes, from summaries of procedures.
+//! The states that reach the nodes, from what procedures do.
 
 ghost use Rattle.std.specs.Prelude.{ℕ, ◌+◌, ◌*◌, ◌≤◌, IfOk};
 ghost use Rattle.affine_prog.specs.Programs.{IsWellFormed};
 ghost use Rattle.affine_prog.specs.Spans.{AreLevels, AreExits, AreReached};
 ghost use Rattle.reach_modules.specs.Counts.{row_count};
+ghost use Rattle.reach_modules.specs.Tables.{ArePlaces};
 
-use crate::Reach;
-use affine_prog::Program;
+use crate::places::{edges_out, exits_of, numbers_to};
+use crate::start::{empty_bases, first_offers};
+use crate::worklist::{push_all, take_all};
+use crate::{Reach, Tables};
+use affine_prog::{Program, paths_end_at_nodes};
 use lead_basis::{Memory, Steps};
 use map_modules::MatBasis;
+use sqlite_items::Items;
 use std::alloc::Global;
 use std::sync::ledger::Ledger;
 
@@ -25,10 +30,11 @@ pub fn reach<L: Ledger>(
     requires levels { AreLevels program.now levels.now }
     ensures exact { IfOk result (λ reached. AreReached program.now reached) }
     ensures never_falls { steps.old ≤ steps.new }
-    ensures counts_no_more { steps.new ≤ steps.old + 64 * program.now.nodes * (program.now.width + 1) }
+    ensures counts_no_more { steps.new ≤ steps.old + 1088 * program.now.nodes }
     ensures counts_rows { IfOk result (λ reached. steps.old + row_count reached ≤ steps.new) }
 {
-    Err(Memory)
+    let places = exits_of(alloc, program)?;
+    solve(alloc, program, levels, places, steps)
 }
 
 /// The same, from a basis for each procedure of the module of the maps of its level paths to its exit.
@@ -42,8 +48,43 @@ pub fn reach_by_exits<L: Ledger>(
     requires exits { AreExits program.now exits.now }
     ensures exact { IfOk result (λ reached. AreReached program.now reached) }
     ensures never_falls { steps.old ≤ steps.new }
-    ensures counts_no_more { steps.new ≤ steps.old + 64 * program.now.nodes * (program.now.width + 1) }
+    ensures counts_no_more { steps.new ≤ steps.old + 1088 * program.now.nodes }
     ensures counts_rows { IfOk result (λ reached. steps.old + row_count reached ≤ steps.new) }
 {
-    Err(Memory)
+    let places = numbers_to(alloc, program.procs.len())?;
+    solve(alloc, program, exits, places, steps)
+}
+
+/// The same, from bases among which each procedure has a place.
+fn solve<L: Ledger>(
+    alloc: Global,
+    program: &Program,
+    summaries: &[MatBasis],
+    places: Items<usize>,
+    steps: &mut Steps<L>,
+) -> Result<Reach, Memory>
+    requires formed { IsWellFormed program.now }
+    requires places { ArePlaces program.now summaries.now places }
+    ensures exact { IfOk result (λ reached. AreReached program.now reached) }
+    ensures never_falls { steps.old ≤ steps.new }
+    ensures counts_no_more { steps.new ≤ steps.old + 1088 * program.now.nodes }
+    ensures counts_rows { IfOk result (λ reached. steps.old + row_count reached ≤ steps.new) }
+{
+    let out = edges_out(alloc, program)?;
+    let tables = Tables { out, places };
+    let firsts = first_offers(alloc, program)?;
+    let mut bases = empty_bases(alloc, program.nodes)?;
+    let mut pending = Items::new(alloc);
+    paths_end_at_nodes();
+    take_all(&mut bases, &mut pending, firsts.as_slice(), steps)?;
+    push_all(
+        alloc,
+        program,
+        summaries,
+        &tables,
+        &mut bases,
+        &mut pending,
+        steps,
+    )?;
+    Ok(Reach { bases })
 }

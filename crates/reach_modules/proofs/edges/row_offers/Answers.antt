@@ -1,4 +1,4 @@
-use Rattle.std.proofs.Common.{take, get_or, ap, sym, subst, ◌∙◌}
+use Rattle.std.proofs.Common.{take, get_or, sym, subst}
 use Rattle.std.proofs.lemmas.List.{take_more, take_all}
 use Rattle.reach_modules.specs.Worklists.{AlongOffers, EdgeOffers}
 use Rattle.reach_modules.proofs.Lookups.{found, edge_below, edge_contained, edge_is}

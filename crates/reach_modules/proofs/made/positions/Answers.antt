@@ -1,4 +1,4 @@
-use Rattle.std.proofs.Common.{◌≡◌, ℕ, arith}
+use Rattle.std.proofs.Common.{◌≡◌, arith}
 use Rattle.reach_modules.proofs.Positions.{position_more}
 use Rattle.reach_modules.proofs.made.positions.Goals as goal
 

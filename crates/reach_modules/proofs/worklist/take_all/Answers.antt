@@ -1,5 +1,5 @@
 use Rattle.reach_modules.proofs.InTurn.{keeps_none, takes_none, keeps_more, takes_more, keeps_all}
-use Rattle.std.proofs.Common.{length, ◌+◌}
+use Rattle.std.proofs.Common.{length}
 use Rattle.reach_modules.proofs.worklist.take_all.Goals as goal
 
 pub loop-offered-init : goal.loop-offered-init
