@@ -7,8 +7,9 @@ use Rattle.affine_prog.specs.declared.Kind.TheVariants.{Do, Call}
 use Rattle.affine_prog.specs.declared.Assign.{Assign}
 use Rattle.affine_prog.specs.Programs.{edge, entry_of, slots_of, owner_of, IsKindIn, IsWellFormed}
 use Rattle.reach_modules.specs.declared.Offer.{Offer}
+use Rattle.affine_prog.specs.Laws.{IsOpening}
 use Rattle.reach_modules.specs.Made.{Makes, Spans, MakesEach}
-use Rattle.reach_modules.specs.Moves.{IsMatrixOf, IsOpening, IsReturn}
+use Rattle.reach_modules.specs.Moves.{IsMatrixOf, IsReturn}
 use Rattle.reach_modules.specs.Offers.{offer}
 use Rattle.reach_modules.specs.Worklists.{EdgeOffers}
 use Rattle.reach_modules.proofs.Spanning.{spans_after}
@@ -28,7 +29,7 @@ module _ (program : Program) (formed : IsWellFormed program) (e : Edge) (contain
 
   pub edge_calls : (q : ℕ) (before given : List Assign) (rows first second over into over_listed into_listed : List (List ℕ)) (entry : ℕ) (firsts offers : List Offer) (procs : List Proc) (d : Proc)
       → e.kind ≡ Call q before → given ≡ before → Spans rows (Makes (IsMatrixOf given) v) → first ≡ rows → MakesEach (IsReturn program (slots_of program (owner_of program e.from)) q) first over
-      → second ≡ rows → MakesEach (IsOpening program q) second into → over_listed ≡ over → into_listed ≡ into → procs ≡ program.procs → entry ≡ (get_or procs q d).entry
+      → second ≡ rows → MakesEach (IsOpening program.registers (slots_of program q)) second into → over_listed ≡ over → into_listed ≡ into → procs ≡ program.procs → entry ≡ (get_or procs q d).entry
       → firsts ≡ empty ++ map (λ x. offer e.to x) over_listed → offers ≡ firsts ++ map (λ x. offer entry x) into_listed → EdgeOffers program e v offers
   edge_calls q before given rows first second over into over_listed into_listed entry firsts offers procs d kind same spans first_is overs second_is intos over_is into_is procs_are entry_is firsts_are is =
       let below = callee_is_proc q before kind in
@@ -38,6 +39,6 @@ module _ (program : Program) (formed : IsWellFormed program) (e : Edge) (contain
       subst (λ k. EdgeOffers program (edge e.from e.to k) v offers) (sym kind)
       (call_offered program e.from e.to (edge_in program formed e contains).to v q before over into offers (formed.procs q below).entry
       (spans_after R (IsMatrixOf before) v rows over made (subst (λ l. MakesEach R l over) first_is overs))
-      (spans_after (IsOpening program q) (IsMatrixOf before) v rows into made (subst (λ l. MakesEach (IsOpening program q) l into) second_is intos))
+      (spans_after (IsOpening program.registers (slots_of program q)) (IsMatrixOf before) v rows into made (subst (λ l. MakesEach (IsOpening program.registers (slots_of program q)) l into) second_is intos))
       (is ∙ ap (λ os. os ++ map (λ x. offer entry x) into_listed) (firsts_are ∙ ap (λ os. os ++ map (λ x. offer e.to x) over_listed) none ∙ ap (map (λ x. offer e.to x)) over_is)
       ∙ ap (λ l. map (λ x. offer e.to x) over ++ map (λ x. offer entry x) l) into_is ∙ ap (λ n. map (λ x. offer e.to x) over ++ map (λ x. offer n x) into) at))

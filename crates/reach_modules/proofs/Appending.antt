@@ -4,8 +4,8 @@ use Rattle.std.proofs.lemmas.List.{length-append, length-take, length-drop, take
 use Rattle.word_rows.specs.Words.{word}
 use Rattle.word_rows.specs.Rows.{IsRow}
 use Rattle.map_modules.specs.Matrices.{product}
-use Rattle.map_modules.proofs.Entries.{IsRow-matrix}
-use Rattle.map_modules.proofs.Products.{product-product, product-identity_second}
+use Rattle.map_modules.proofs.Lemmas.{IsRow-matrix}
+use Rattle.map_modules.proofs.Lemmas.{product-product, product-identity_second}
 use Rattle.affine_prog.specs.declared.Assign.{Assign}
 use Rattle.affine_prog.specs.declared.Assign.TheVariants.{Affine, Any}
 use Rattle.affine_prog.specs.Assignments.{unknown_count, Choice, constant, assignment, matrix_of}

@@ -1,36 +1,14 @@
--- A row with one word set, and what the matrix of an affine assignment makes of a row.
-use Rattle.std.proofs.Common.{◌≡◌, ◌≢◌, ℕ, zero, suc, ◌+◌, ◌*◌, ◌^◌, ◌<◌, inl, inr, List, [], ◌∷◌, length, set, get_or, slice_index, refl, ap, sym, subst, ◌∙◌, arith, if◌then◌else◌, ◌==◌}
-use Rattle.std.proofs.Math.Nat.{mod-mod}
+-- What the matrix of an affine assignment makes of a row.
+use Rattle.std.proofs.Common.{◌≡◌, ◌≢◌, ℕ, zero, suc, ◌+◌, ◌*◌, ◌<◌, inl, inr, List, [], ◌∷◌, length, set, get_or, slice_index, refl, ap, sym, subst, ◌∙◌, arith, if◌then◌else◌, ◌==◌}
 use Rattle.std.proofs.lemmas.Bool.{cases_eq, eq-eqb, ne_eqb}
 use Rattle.std.proofs.lemmas.List.{length-set, get_or-set_same, get_or-set_other}
 use Rattle.word_rows.specs.Words.{word}
-use Rattle.word_rows.specs.Rows.{words_of, plus, IsRow, dot, dot_sum}
+use Rattle.word_rows.specs.Rows.{IsRow, dot, dot_sum}
 use Rattle.map_modules.specs.Matrices.{entry, matrix, sum_below, identity, product, apply}
-use Rattle.map_modules.proofs.Sums.{word-word, word-mul, sum_below_none, sum_below-suc, sum_below_same, sum_below-times, sum_below_pick}
-use Rattle.map_modules.proofs.Entries.{entry-matrix, IsRow-matrix, get_or-vector, vector_from_index}
-use Rattle.map_modules.proofs.Products.{product-identity_first, product-identity_second, apply-identity}
+use Rattle.map_modules.proofs.Lemmas.{word-word, word-mul, sum_below_none, sum_below-suc, sum_below_same, sum_below-times, sum_below_pick}
+use Rattle.map_modules.proofs.Lemmas.{entry-matrix, IsRow-matrix, get_or-vector, vector_from_index}
+use Rattle.map_modules.proofs.Lemmas.{product-identity_first, product-identity_second, apply-identity}
 use Rattle.affine_prog.specs.Assignments.{constant, assignment}
-
--- a row with a word set
-words_of-set : (v : List ℕ) (i x : ℕ) → words_of (set v i (word x)) ≡ set (words_of v) i (word x)
-words_of-set [] i x = refl
-words_of-set (y ∷ v) zero x = ap (λ z. z ∷ words_of v) (mod-mod x (2 ^ 64))
-words_of-set (y ∷ v) (suc i) x = ap (λ zs. word y ∷ zs) (words_of-set v i x)
-
-pub IsRow-set : (n i x : ℕ) (v : List ℕ) → IsRow n v → IsRow n (set v i (word x))
-IsRow-set n i x v r = record {
-  width = length-set v i (word x) ∙ r.width;
-  words = words_of-set v i x ∙ ap (λ xs. set xs i (word x)) r.words;
-}
-
--- words set in both parts of a sum
-pub plus-set : (c i x y : ℕ) (v w : List ℕ) → length v ≡ length w
-    → set (words_of (plus c v w)) i (word (x + c * y)) ≡ words_of (plus c (set v i x) (set w i y))
-plus-set c i x y [] [] e = refl
-plus-set c i x y [] (b ∷ w) e = absurd (omega arith)
-plus-set c i x y (a ∷ v) [] e = absurd (omega arith)
-plus-set c zero x y (a ∷ v) (b ∷ w) e = refl
-plus-set c (suc i) x y (a ∷ v) (b ∷ w) e = ap (λ zs. word (a + c * b) ∷ zs) (plus-set c i x y v w (omega arith))
 
 -- the sum of products, from the first position on
 sum_from_first : (n : ℕ) (f : ℕ → ℕ) → sum_below (suc n) f ≡ f 0 + sum_below n (λ k. f (suc k))

@@ -4,21 +4,21 @@ use Rattle.std.proofs.lemmas.Bool.{cases_eq, eq-eqb, ne_eqb}
 use Rattle.std.proofs.lemmas.List.{take_more}
 use Rattle.word_rows.specs.Words.{word}
 use Rattle.word_rows.specs.Rows.{words_of, plus, IsRow, dot}
-use Rattle.word_rows.proofs.Laws.{words_of-plus_factor}
+use Rattle.word_rows.proofs.Laws.{words_of-plus_factor, IsRow-set}
 use Rattle.row_modules.specs.Modules.{AreRows, none}
 use Rattle.row_modules.specs.Choices.{IsChoice}
 use Rattle.row_modules.proofs.Laws.{first_or_later, contains_first, nothing_contained, rows_with, spans_more, choices_span, generator, within_from_generators}
 use Rattle.map_modules.specs.Matrices.{identity, product, apply}
-use Rattle.map_modules.proofs.Sums.{word-word}
-use Rattle.map_modules.proofs.Entries.{IsRow-vector}
-use Rattle.map_modules.proofs.Products.{apply-identity}
+use Rattle.map_modules.proofs.Lemmas.{word-word}
+use Rattle.map_modules.proofs.Lemmas.{IsRow-vector}
+use Rattle.map_modules.proofs.Lemmas.{apply-identity}
 use Rattle.affine_prog.specs.declared.Assign.{Assign}
 use Rattle.affine_prog.specs.declared.Assign.TheVariants.{Affine, Any}
 use Rattle.affine_prog.specs.Assignments.{position_of, constant, matrix_of}
 use Rattle.reach_modules.specs.Made.{Makes, After, Spans, alone, images_of}
 use Rattle.reach_modules.specs.Moves.{IsMatrixOf}
 use Rattle.reach_modules.proofs.Alone.{own_word, alone_is_row, zeros_alone, set_multiple}
-use Rattle.reach_modules.proofs.Assigning.{IsRow-set, affine_is_product, constant_product}
+use Rattle.reach_modules.proofs.Assigning.{affine_is_product, constant_product}
 use Rattle.reach_modules.proofs.Spanning.{spans_after, spans_same}
 use Rattle.reach_modules.proofs.Appending.{matrix_of-append, Choice-append, Choice-parts}
 

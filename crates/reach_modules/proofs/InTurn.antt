@@ -3,12 +3,12 @@ use Rattle.std.proofs.Common.{◌≡◌, ℕ, zero, suc, ◌<◌, ◌+◌, inl, 
 use Rattle.std.proofs.lemmas.List.Elements.{Contains-append_left, Contains-append_right, Contains-append_cases, All-contains, All-head, All-tail, All-take}
 use Rattle.std.proofs.lemmas.List.{take_more, take-append-drop}
 use Rattle.lead_basis.proofs.Laws.{basis_rows}
-use Rattle.row_modules.specs.Modules.{AreRows, IsWithin}
+use Rattle.row_modules.specs.Modules.{AreRows, IsWithin, Either}
 use Rattle.row_modules.specs.Bases.{IsLeadingBasis}
-use Rattle.row_modules.proofs.Laws.{spans_more, generator, within_from_generators}
+use Rattle.row_modules.proofs.Laws.{spans_more, generator, within_from_generators, either_rows}
 use Rattle.reach_modules.specs.declared.Offer.{Offer}
 use Rattle.affine_prog.specs.Spans.{rows_at}
-use Rattle.reach_modules.specs.Offers.{offer, IsListed, IsOffer, Either, Keeps, Takes}
+use Rattle.reach_modules.specs.Offers.{offer, IsListed, IsOffer, Keeps, Takes}
 
 pub keeps_none : (old : List (List (List ℕ))) (before : ℕ) → Keeps [] old old before before
 keeps_none old before = record {
@@ -88,9 +88,6 @@ all_rows (b ∷ bases) all (suc u) v h = all_rows bases (All-tail (IsLeadingBasi
 pub offered_rows : (n : ℕ) (offers : List Offer) → All (IsOffer n) offers → (u : ℕ) → AreRows 17 (IsListed offers u)
 offered_rows n offers all u m h = (All-contains (IsOffer n) offers (offer u m) all h).row
 
-pub either_rows : (P Q : List ℕ → Type 0) → AreRows 17 P → AreRows 17 Q → AreRows 17 (Either P Q)
-either_rows P Q p q v h = elim h [ inl k ↦ p v k | inr k ↦ q v k ]
-
 module _ (offers : List Offer) (i n : ℕ) (x : Offer) (below : i < length offers) (is : x ≡ get_or offers i x) (old mid new : List (List (List ℕ)))
     (good : All (IsOffer n) offers) (all : All (IsLeadingBasis 17) old) where
   one_more : take (i + 1) offers ≡ take i offers ++ x ∷ []
@@ -103,7 +100,7 @@ module _ (offers : List Offer) (i n : ℕ) (x : Offer) (below : i < length offer
       → Keeps (take (i + 1) offers) old new before after
   keeps_more before between after first next =
       rw one_more (keeps_then (take i offers) (x ∷ []) old mid new before between after
-      (λ u. either_rows (Contains (rows_at old u)) (IsListed (take i offers ++ x ∷ []) u) (all_rows old all u) (offered_rows n (take i offers ++ x ∷ []) good_more u))
+      (λ u. either_rows 17 (Contains (rows_at old u)) (IsListed (take i offers ++ x ∷ []) u) (all_rows old all u) (offered_rows n (take i offers ++ x ∷ []) good_more u))
       (all_rows mid (first.bases all)) first next)
 
   pub keeps_all : (before after : ℕ) → Keeps (take (i + 1) offers) old new before after → Keeps offers old new before after
@@ -124,7 +121,7 @@ module _ (offers : List Offer) (i n : ℕ) (x : Offer) (below : i < length offer
       → Takes (take i offers) old mid waiting listed before between → Takes (x ∷ []) mid new listed pending between after → Takes (take (i + 1) offers) old new waiting pending before after
   takes_more before between after waiting listed pending good_waiting kept keeps first next =
       rw one_more (takes_then (take i offers) (x ∷ []) old mid new waiting listed pending before between after
-      (λ u. either_rows (Contains (rows_at old u)) (IsListed pending u) (all_rows old all u)
+      (λ u. either_rows 17 (Contains (rows_at old u)) (IsListed pending u) (all_rows old all u)
       (λ m h. elim (next.listed u m h) [
         | inl k ↦ elim (first.listed u m k) [ inl l ↦ offered_rows n waiting good_waiting u m l | inr l ↦ offered_rows n (take i offers) (All-take (IsOffer n) i offers good) u m l ]
         | inr k ↦ offered_rows n (take i offers ++ x ∷ []) good_more u m (Contains-append_right (take i offers) (x ∷ []) (offer u m) k)

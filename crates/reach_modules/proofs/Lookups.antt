@@ -12,9 +12,10 @@ use Rattle.affine_prog.specs.declared.Assign.{Assign}
 use Rattle.affine_prog.specs.Assignments.{position_of}
 use Rattle.affine_prog.specs.Programs.{edge, entry_of, slots_of, IsEdgeOf, IsWellFormed}
 use Rattle.affine_prog.specs.Spans.{IsMapOf}
-use Rattle.affine_prog.proofs.Paths.{step_placed, call_placed}
+use Rattle.affine_prog.proofs.Lemmas.{step_placed, call_placed}
+use Rattle.affine_prog.specs.Laws.{IsOpening}
 use Rattle.reach_modules.specs.Made.{MakesEach, opened_of, returned_of}
-use Rattle.reach_modules.specs.Moves.{IsOpening, IsReturn}
+use Rattle.reach_modules.specs.Moves.{IsReturn}
 use Rattle.reach_modules.specs.Tables.{edge_at, AreOut, ArePositions}
 use Rattle.reach_modules.proofs.Returning.{returned_spans}
 use Rattle.reach_modules.proofs.Openings.{opened_spans}
@@ -52,11 +53,11 @@ module _ (program : Program) (formed : IsWellFormed program) where
   }
 
   pub opened_makes : (q r s : ℕ) (slots given keep one : List ℕ) (rows all : List (List ℕ)) → q < length program.procs → r ≡ program.registers → s ≡ slots_of program q → ArePositions s slots → given ≡ slots
-      → one ≡ identity 16 → keep ≡ linear_extension r 0 one → all ≡ flat_map (opened_of given keep) rows → MakesEach (IsOpening program q) rows all
+      → one ≡ identity 16 → keep ≡ linear_extension r 0 one → all ≡ flat_map (opened_of given keep) rows → MakesEach (IsOpening program.registers (slots_of program q)) rows all
   opened_makes q r s slots given keep one rows all below registers sets are same is_one keeps is = record {
     by = opened_of slots keep;
     is = is ∙ ap (λ x. flat_map (opened_of x keep) rows) same;
-    each = λ v row. opened_spans program q slots keep v (apart q below) (subst (λ x. ArePositions x slots) sets are) (keeps ∙ ap (λ x. linear_extension x 0 one) registers ∙ ap (linear_extension program.registers 0) is_one) row;
+    each = λ v row. opened_spans program.registers (slots_of program q) slots keep v (apart q below) (subst (λ x. ArePositions x slots) sets are) (keeps ∙ ap (λ x. linear_extension x 0 one) registers ∙ ap (linear_extension program.registers 0) is_one) row;
   }
 
 pub found : (lists : List (List ℕ)) (u n : ℕ) (x y : List ℕ) → u < n → length lists ≡ n → x ≡ get_or lists u x → y ≡ x → y ≡ get_or lists u []

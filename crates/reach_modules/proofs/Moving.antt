@@ -4,7 +4,7 @@ use Rattle.std.proofs.Common.{◌≡◌, inl, inr, ℕ, List, Contains, refl, ap
 use Rattle.std.proofs.lemmas.List.Elements.{All-contains}
 use Rattle.word_rows.specs.Rows.{IsRow}
 use Rattle.map_modules.specs.Matrices.{product, apply, extension}
-use Rattle.map_modules.proofs.Products.{product-product, apply-product}
+use Rattle.map_modules.proofs.Lemmas.{product-product, apply-product}
 use Rattle.affine_prog.specs.declared.Program.{Program}
 use Rattle.affine_prog.specs.declared.Kind.{Kind}
 use Rattle.affine_prog.specs.declared.Kind.TheVariants.{Do, Call}
@@ -13,7 +13,7 @@ use Rattle.affine_prog.specs.Assignments.{matrix_of}
 use Rattle.affine_prog.specs.LevelPaths.{opening_map, LevelPath, opening, step, call}
 use Rattle.affine_prog.specs.OpenPaths.{Start, OpenPath, first, enter}
 use Rattle.affine_prog.specs.Spans.{IsStateAt}
-use Rattle.affine_prog.specs.Laws.{LevelPathsStay}
+use Rattle.affine_prog.proofs.Lemmas.{end_of_level_path}
 use Rattle.reach_modules.specs.Moves.{KindMap, Moves, IsFirst}
 
 -- the last level path of an open path, and what it begins from
@@ -43,7 +43,7 @@ last_of program start w s (enter q u v w' before words m state s' path contains 
   again = λ x n other. enter q u v x before words n state (apply n (apply (matrix_of before words) state)) path contains choice other refl;
 }
 
-module _ (program : Program) (formed : IsWellFormed program) (stays : LevelPathsStay) where
+module _ (program : Program) (formed : IsWellFormed program) where
   module _ (start : List ℕ) (u to : ℕ) (s : List ℕ) (path : OpenPath program start u s) where
     abbrev last : Last program start u s
     last = last_of program start u s path
@@ -55,7 +55,7 @@ module _ (program : Program) (formed : IsWellFormed program) (stays : LevelPaths
         let e : apply m s ≡ apply n last.begun = ap (apply m) last.is ∙ sym (apply-product m last.map last.begun) in
         rw (at, e) made
     kind_moved (Call q before) v m contains (inl (at, (a, b, (callee, called, a_is), (words, choice, b_is), is))) =
-        let own : owner_of program u ≡ last.proc = (stays program last.proc u last.map formed last.path).1 in
+        let own : owner_of program u ≡ last.proc = (end_of_level_path program formed last.proc u last.map last.path).1 in
         let n : List ℕ = product a (product b last.map) in
         let same : n ≡ product (extension program.registers (slots_of program last.proc) callee) (product (matrix_of before words) last.map) =
         ap (λ x. product x (product b last.map)) (a_is ∙ ap (λ p. extension program.registers (slots_of program p) callee) own)
@@ -100,7 +100,7 @@ module _ (program : Program) (formed : IsWellFormed program) (stays : LevelPaths
         (closed u v (apply m x) b (level_in p u m x opens path) (record { along = edge u v (Do assigns); in_edges = contains; from_u = refl; map = (refl, (words, choice, refl)) }))
     level_in p v n x opens (call p' q u v' before words m callee n' path contains choice called is) =
         let b = matrix_of before words in let a = extension program.registers (slots_of program (owner_of program u)) callee in
-        let own : owner_of program u ≡ p = (stays program p u m formed path).1 in
+        let own : owner_of program u ≡ p = (end_of_level_path program formed p u m path).1 in
         let e : n ≡ product (product a b) m = is ∙ ap (λ k. product (extension program.registers (slots_of program k) callee) (product b m)) (sym own) ∙ product-product a b m in
         rw (ap (λ y. apply y x) e ∙ apply-product (product a b) m x)
         (closed u v (apply m x) (product a b) (level_in p u m x opens path) (record { along = edge u v (Call q before); in_edges = contains; from_u = refl; map = inl (refl, (a, b, (callee, called, refl), (words, choice, refl), refl)) }))

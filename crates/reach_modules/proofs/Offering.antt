@@ -10,8 +10,9 @@ use Rattle.affine_prog.specs.declared.Kind.TheVariants.{Do, Call}
 use Rattle.affine_prog.specs.declared.Assign.{Assign}
 use Rattle.affine_prog.specs.Programs.{edge, entry_of, slots_of, owner_of}
 use Rattle.reach_modules.specs.declared.Offer.{Offer}
+use Rattle.affine_prog.specs.Laws.{IsOpening}
 use Rattle.reach_modules.specs.Made.{Makes, After, Spans}
-use Rattle.reach_modules.specs.Moves.{IsMatrixOf, IsOpening, IsReturn, EdgeMap, Moves}
+use Rattle.reach_modules.specs.Moves.{IsMatrixOf, IsReturn, EdgeMap, Moves}
 use Rattle.reach_modules.specs.Offers.{offer, IsListed, IsOffer}
 use Rattle.reach_modules.specs.Tables.{edge_at, AreOut, AlongSome}
 use Rattle.reach_modules.specs.Worklists.{EdgeOffers, AlongOffers, Pushes}
@@ -63,7 +64,7 @@ module _ (program : Program) (u to : ℕ) (below : to < program.nodes) (v : List
     Over = After (IsReturn program (slots_of program (owner_of program u)) q) (IsMatrixOf before)
 
     abbrev Into : List ℕ → Type 0
-    Into = After (IsOpening program q) (IsMatrixOf before)
+    Into = After (IsOpening program.registers (slots_of program q)) (IsMatrixOf before)
 
     abbrev firsts : List Offer
     firsts = map (λ x. offer to x) over

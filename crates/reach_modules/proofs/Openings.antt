@@ -1,33 +1,26 @@
 -- What spans all that an opening can make of a row.
-use Rattle.std.proofs.Common.{◌≡◌, ℕ, ◌*◌, ◌<◌, inl, inr, List, ◌∷◌, set, slice_index, replicate, map, Contains, Bool, true, false, IsTrue, refl, ap, ap₂, sym, ◌∙◌, arith, if◌then◌else◌, ◌==◌, ◌&&◌, ◌||◌, bit_and, min, nat_lt}
+use Rattle.std.proofs.Common.{◌≡◌, ℕ, ◌*◌, ◌<◌, inl, inr, List, ◌∷◌, slice_index, replicate, map, Contains, Bool, true, false, IsTrue, refl, ap, sym, ◌∙◌, arith, if◌then◌else◌, ◌==◌, ◌&&◌, ◌||◌, bit_and, min, nat_lt}
 use Rattle.std.specs.Int.{bit_at}
 use Rattle.std.proofs.lemmas.Bool.{cases_eq, cases_lt, lt-ltb, eq-eqb, ne_eqb, false≢true}
 use Rattle.std.proofs.lemmas.Grind.{same_number_lists}
-use Rattle.std.proofs.lemmas.List.{get_or-set_same, get_or-set_other}
 use Rattle.std.proofs.lemmas.Nat.Bits.{bit_at_and, bit_at-zero}
 use Rattle.word_rows.specs.Words.{word}
-use Rattle.word_rows.specs.Rows.{words_of, plus, IsRow}
-use Rattle.word_rows.proofs.Laws.{get_or-zeros, IsRow-zeros}
-use Rattle.row_modules.specs.Modules.{AreRows, IsCombination, IsModule}
-use Rattle.row_modules.proofs.Laws.{combinations, generator, first_or_later, contains_first, contains_later, within_from_generators}
-use Rattle.map_modules.specs.Positions.{has}
+use Rattle.word_rows.specs.Rows.{unit, IsRow}
+use Rattle.word_rows.proofs.Laws.{get_or-zeros, unit_at, unit_elsewhere}
+use Rattle.row_modules.specs.Modules.{AreRows, Either, SameModule}
+use Rattle.row_modules.specs.Maps.{Image}
+use Rattle.row_modules.specs.Positions.{has, IsUnitOn}
+use Rattle.row_modules.proofs.Laws.{first_or_later, contains_first, contains_later, spans_more, either_rows, image_within}
 use Rattle.map_modules.specs.Matrices.{entry, sum_below, identity, apply, linear_extension}
 use Rattle.map_modules.proofs.Conditions.{and_true, or_true, same_tests}
-use Rattle.map_modules.proofs.Sums.{word-word, word-mul, sum_below_same, sum_below_pick}
-use Rattle.map_modules.proofs.Entries.{entry-matrix, IsRow-matrix, same_matrix, get_or-vector, IsRow-vector}
-use Rattle.map_modules.proofs.Linear.{apply_first}
-use Rattle.affine_prog.specs.declared.Program.{Program}
-use Rattle.affine_prog.specs.Programs.{slots_of}
+use Rattle.map_modules.proofs.Lemmas.{word-word, word-mul, sum_below_same, sum_below_pick, entry-matrix, IsRow-matrix, same_matrix, get_or-vector, IsRow-vector, apply_is_bilinear}
 use Rattle.affine_prog.specs.LevelPaths.{opening_map}
-use Rattle.affine_prog.specs.Laws.{slot_words}
-use Rattle.affine_prog.proofs.Calls.{opening_map-zeros}
+use Rattle.affine_prog.specs.Laws.{slot_words, IsOpening}
+use Rattle.affine_prog.proofs.Lemmas.{openings_span}
 use Rattle.reach_modules.specs.Made.{Makes, Spans, alone, opened_of}
-use Rattle.reach_modules.specs.Moves.{IsOpening}
 use Rattle.reach_modules.specs.Tables.{ArePositions}
 use Rattle.reach_modules.proofs.Membership.{map_in, map_out}
-use Rattle.reach_modules.proofs.Assigning.{IsRow-set}
-use Rattle.reach_modules.proofs.Alone.{own_word, alone_is_row, alone_at, alone_elsewhere, zeros_alone, multiple_alone, from_words, less_first}
-use Rattle.reach_modules.proofs.Spanning.{made_are_rows}
+use Rattle.reach_modules.proofs.Alone.{own_word, alone_is_row, alone_at, alone_elsewhere, zeros_alone}
 use Rattle.reach_modules.proofs.Imaging.{unless_zero}
 
 -- the word that a slot is given, and 0 for what is no slot
@@ -58,47 +51,16 @@ module _ (registers slots : ℕ) (v : List ℕ) (row : IsRow 17 v) where
       (ap word (entry-matrix _ i k below h) ∙ word-word _ ∙ ap word (given_at (has registers i || (i == 16)) (has slots i) (k == 16) (slice_index words i))) refl)
       ∙ ap word (sum_below_pick 17 16 (word_given words i) (λ k. slice_index v k) (omega arith))
 
-  abbrev kept : List ℕ
-  kept = apply (opening_map registers slots (replicate 16 0)) v
-
-  opening_sum : (words : List ℕ) → apply (opening_map registers slots words) v ≡ words_of (plus 1 kept (apply (slot_words registers slots words) v))
-  opening_sum words =
-      ap (λ m. apply m v) (opening_map-zeros registers slots words)
-      ∙ apply_first v 1 (opening_map registers slots (replicate 16 0)) (slot_words registers slots words) (IsRow-matrix _) (IsRow-matrix _)
-
-  -- a module with the kept row, and with the constant's word at each slot, has all openings
-  module _ (S : List ℕ → Type 0) (m : IsModule 17 S) (first : S kept) (each : (k : ℕ) → k < 16 → IsTrue (has slots k) → S (alone k (slice_index v 16))) where
-    alone_in : (i : ℕ) (b c : Bool) (w : ℕ) → b ≡ (has registers i || (i == 16)) → c ≡ has slots i → i < 17 → S (alone i (word (given b c w * slice_index v 16)))
-    alone_in i true c w e f below = nothing
-      where
-        nothing : S (alone i (word (0 * slice_index v 16)))
-        nothing = rw (ap (λ n. alone i (word n)) (let z : 0 * slice_index v 16 ≡ 0 = omega arith in z) ∙ zeros_alone i) m.zero_row
-    alone_in i false false w e f below = rw (ap (λ n. alone i (word n)) (let z : 0 * slice_index v 16 ≡ 0 = omega arith in z) ∙ zeros_alone i) m.zero_row
-    alone_in i false true w e f below = elim (cases_lt i 16) [
-      | inl lt ↦ multiple_alone S m i w (slice_index v 16) (each i lt (sym f))
-      | inr ge ↦ absurd (false≢true (e ∙ last (has registers i) i (omega arith)))
-    ]
-      where
-        last : (b : Bool) (k : ℕ) → k ≡ 16 → (b || (k == 16)) ≡ true
-        last true k is = refl
-        last false k is = eq-eqb k 16 is
-
-    pub opening_in : (words : List ℕ) → S (apply (opening_map registers slots words) v)
-    opening_in words =
-        rw (opening_sum words) (m.sum 1 kept (apply (slot_words registers slots words) v) first
-        (from_words S m (apply (slot_words registers slots words) v) (IsRow-vector _)
-        (λ k below. rw (slots_at words k below) (alone_in k (has registers k || (k == 16)) (has slots k) (slice_index words k) refl refl below))))
-
   -- what a word at one slot adds
-  one_slot : (k : ℕ) → k < 16 → has registers k ≡ false → has slots k ≡ true → apply (slot_words registers slots (set (replicate 16 0) k 1)) v ≡ alone k (slice_index v 16)
+  one_slot : (k : ℕ) → k < 16 → has registers k ≡ false → has slots k ≡ true → apply (slot_words registers slots (unit 16 k)) v ≡ alone k (slice_index v 16)
   one_slot k below apart member =
-      let c : ℕ = slice_index v 16 in let words : List ℕ = set (replicate 16 0) k 1 in let made : List ℕ = apply (slot_words registers slots words) v in
+      let c : ℕ = slice_index v 16 in let words : List ℕ = unit 16 k in let made : List ℕ = apply (slot_words registers slots words) v in
       let here : word (word_given words k * c) ≡ c =
       ap (λ b. word (given (b || (k == 16)) (has slots k) (slice_index words k) * c)) apart ∙ ap (λ b. word (given b (has slots k) (slice_index words k) * c)) (ne_eqb k 16 (λ e. omega arith))
-      ∙ ap (λ b. word (given false b (slice_index words k) * c)) member ∙ ap (λ w. word (w * c)) (get_or-set_same (replicate 16 0) k 1 0 below)
+      ∙ ap (λ b. word (given false b (slice_index words k) * c)) member ∙ ap (λ w. word (w * c)) (unit_at 16 k below)
       ∙ ap word (let e : 1 * c ≡ c = omega arith in e) ∙ own_word v 16 row in
       let other : (i : ℕ) → (i ≡ k → ⊥) → word (word_given words i * c) ≡ 0 =
-      λ i ne. ap (λ w. word (given (has registers i || (i == 16)) (has slots i) w * c)) (get_or-set_other (replicate 16 0) k i 1 0 ne ∙ get_or-zeros 16 i)
+      λ i ne. ap (λ w. word (given (has registers i || (i == 16)) (has slots i) w * c)) (unit_elsewhere 16 k i ne)
       ∙ ap (λ w. word (w * c)) (none_given (has registers i || (i == 16)) (has slots i)) ∙ ap word (let e : 0 * c ≡ 0 = omega arith in e) in
       same_number_lists made (alone k c) ((IsRow-vector _).width ∙ sym (alone_is_row k c (own_word v 16 row)).width)
       (λ i h. let b : i < 17 = omega (arith, (IsRow-vector (λ j. sum_below 17 (λ l. entry (slot_words registers slots words) j l * slice_index v l))).width) in
@@ -147,59 +109,70 @@ not_in_both s t k apart member =
       | inr ne ↦ absurd (false≢true (sym (ne_eqb (bit_at t k) 1 ne) ∙ member))
     ]
 
-module _ (program : Program) (q : ℕ) (slots keep v : List ℕ) (apart : bit_and program.registers (slots_of program q) ≡ 0) (are : ArePositions (slots_of program q) slots)
-    (keeps : keep ≡ linear_extension program.registers 0 (identity 16)) (row : IsRow 17 v) where
+-- the maps of openings and what they make of a row
+module _ (registers set : ℕ) (slots keep v : List ℕ) (apart : bit_and registers set ≡ 0) (are : ArePositions set slots) (keeps : keep ≡ linear_extension registers 0 (identity 16)) (row : IsRow 17 v) where
+  abbrev under_zeros : List ℕ
+  under_zeros = opening_map registers set (replicate 16 0)
+
+  abbrev few : List ℕ → Type 0
+  few = Either (λ m. m ≡ under_zeros) (Image (slot_words registers set) (IsUnitOn 16 set))
+
+  abbrev at_slot : ℕ → List ℕ
+  at_slot k = alone k (slice_index v 16)
+
   abbrev rows : List (List ℕ)
-  rows = apply keep v ∷ map (λ k. alone k (slice_index v 16)) slots
+  rows = apply keep v ∷ map at_slot slots
 
-  made : AreRows 17 (Makes (IsOpening program q) v)
-  made = made_are_rows (IsOpening program q) v
+  kept_is : apply keep v ≡ apply under_zeros v
+  kept_is = ap (λ m. apply m v) (keeps ∙ same_kept registers set)
 
-  kept_is : apply keep v ≡ kept program.registers (slots_of program q) v row
-  kept_is = ap (λ m. apply m v) (keeps ∙ same_kept program.registers (slots_of program q))
+  slot_is : (k : ℕ) → k < 16 → IsTrue (has set k) → apply (slot_words registers set (unit 16 k)) v ≡ at_slot k
+  slot_is k below member = one_slot registers set v row k below (not_in_both registers set k apart member) member
 
-  rows_are : AreRows 17 (Contains rows)
-  rows_are w h = elim (first_or_later (apply keep v) (map (λ k. alone k (slice_index v 16)) slots) w h) [
-    | inl e ↦ rw e (IsRow-vector _)
-    | inr l ↦ let i = map_out (λ k. alone k (slice_index v 16)) slots w l in rw (i.2) (alone_is_row i.0 (slice_index v 16) (own_word v 16 row))
+  few_in : (w : List ℕ) → Image (λ m. apply m v) few w → Contains rows w
+  few_in w i = elim i.member [
+    | inl e ↦ rw (i.is ∙ ap (λ m. apply m v) e ∙ sym kept_is) (contains_first (apply keep v) (map at_slot slots))
+    | inr j ↦
+        let u = j.member in
+        rw (i.is ∙ ap (λ m. apply m v) (j.is ∙ ap (slot_words registers set) u.is) ∙ slot_is u.position u.within u.there)
+        (contains_later (apply keep v) (map at_slot slots) (at_slot u.position) (map_in at_slot slots u.position ((are u.position).1 (u.within, u.there))))
   ]
 
-  kept_made : IsCombination 17 (Makes (IsOpening program q) v) (apply keep v)
-  kept_made = generator 17 (Makes (IsOpening program q) v) made (apply keep v) (opening_map program.registers (slots_of program q) (replicate 16 0), (replicate 16 0, IsRow-zeros 16, refl), kept_is)
+  in_few : (w : List ℕ) → Contains rows w → Image (λ m. apply m v) few w
+  in_few w h = elim (first_or_later (apply keep v) (map at_slot slots) w h) [
+    | inl e ↦ record { of = under_zeros; member = inl refl; is = e ∙ kept_is }
+    | inr l ↦
+        let i = map_out at_slot slots w l in let b = (are i.0).0 i.1 in
+        record {
+          of = slot_words registers set (unit 16 i.0);
+          member = inr (record { of = unit 16 i.0; member = record { position = i.0; within = b.0; there = b.1; is = refl }; is = refl });
+          is = i.2 ∙ sym (slot_is i.0 b.0 b.1);
+        }
+  ]
 
-  slot_made : (k : ℕ) → Contains slots k → IsCombination 17 (Makes (IsOpening program q) v) (alone k (slice_index v 16))
-  slot_made k h =
-      let b = (are k).0 h in let words = set (replicate 16 0) k 1 in
-      less_first (IsCombination 17 (Makes (IsOpening program q) v)) (combinations 17 (Makes (IsOpening program q) v) made) (apply keep v) (alone k (slice_index v 16))
-      (alone_is_row k (slice_index v 16) (own_word v 16 row)) kept_made
-      (generator 17 (Makes (IsOpening program q) v) made _ (
-        opening_map program.registers (slots_of program q) words,
-        (words, IsRow-set 16 k 1 (replicate 16 0) (IsRow-zeros 16), refl),
-        ap₂ (λ x y. words_of (plus 1 x y)) kept_is (sym (one_slot program.registers (slots_of program q) v row k b.0 (not_in_both program.registers (slots_of program q) k apart b.1) b.1))
-            ∙ sym (opening_sum program.registers (slots_of program q) v row words),
-      ))
+  images : SameModule 17 (Image (λ m. apply m v) (IsOpening registers set)) (Image (λ m. apply m v) few)
+  images =
+      let linear = apply_is_bilinear.first v row in let s = openings_span registers set in
+      let opening_rows : AreRows 289 (IsOpening registers set) = λ m (words, choice, is). rw is (IsRow-matrix _) in
+      let few_rows : AreRows 289 few = either_rows 289 (λ m. m ≡ under_zeros) (Image (slot_words registers set) (IsUnitOn 16 set)) (λ m e. rw e (IsRow-matrix _)) (λ m i. let e = i.is in rw e (IsRow-matrix _)) in
+      record {
+        there = image_within 289 17 (λ m. apply m v) linear (IsOpening registers set) few opening_rows few_rows s.there;
+        back = image_within 289 17 (λ m. apply m v) linear few (IsOpening registers set) few_rows opening_rows s.back;
+      }
 
-  all_span : Spans rows (Makes (IsOpening program q) v)
+  all_span : Spans rows (Makes (IsOpening registers set) v)
   all_span = record {
-    rows_are = rows_are;
+    rows_are = λ w h. let e = (in_few w h).is in rw e (IsRow-vector _);
     same = record {
-      there = within_from_generators 17 (Contains rows) (Makes (IsOpening program q) v) made
-          (λ w h. elim (first_or_later (apply keep v) (map (λ k. alone k (slice_index v 16)) slots) w h) [
-            | inl e ↦ rw e kept_made
-            | inr l ↦ let i = map_out (λ k. alone k (slice_index v 16)) slots w l in rw (i.2) (slot_made i.0 i.1)
-          ]);
-      back = within_from_generators 17 (Makes (IsOpening program q) v) (Contains rows) rows_are
-          (λ w (m, (words, choice, is), e). rw (e ∙ ap (λ x. apply x v) is)
-          (opening_in program.registers (slots_of program q) v row (IsCombination 17 (Contains rows)) (combinations 17 (Contains rows) rows_are)
-          (rw (← kept_is) (generator 17 (Contains rows) rows_are (apply keep v) (contains_first (apply keep v) (map (λ k. alone k (slice_index v 16)) slots))))
-          (λ k below member. generator 17 (Contains rows) rows_are (alone k (slice_index v 16))
-          (contains_later (apply keep v) (map (λ k. alone k (slice_index v 16)) slots) (alone k (slice_index v 16)) (map_in (λ k. alone k (slice_index v 16)) slots k ((are k).1 (below, member)))))
-          words));
+      there = λ w h. spans_more 17 (Image (λ m. apply m v) (IsOpening registers set)) (Makes (IsOpening registers set) v) (λ x i. (i.of, i.member, i.is)) w
+          (images.back w (spans_more 17 (Contains rows) (Image (λ m. apply m v) few) in_few w h));
+      back = λ w h. spans_more 17 (Image (λ m. apply m v) few) (Contains rows) few_in w
+          (images.there w (spans_more 17 (Makes (IsOpening registers set) v) (Image (λ m. apply m v) (IsOpening registers set)) (λ x (m, i, e). record { of = m; member = i; is = e }) w h));
     };
   }
 
-  pub opened_spans : Spans (opened_of slots keep v) (Makes (IsOpening program q) v)
+  pub opened_spans : Spans (opened_of slots keep v) (Makes (IsOpening registers set) v)
   opened_spans =
-      unless_zero (slice_index v 16) (apply keep v) (map (λ k. alone k (slice_index v 16)) slots) (Makes (IsOpening program q) v)
-      (λ e w h. let i = map_out (λ k. alone k (slice_index v 16)) slots w h in i.2 ∙ ap (alone i.0) e ∙ zeros_alone i.0)
+      unless_zero (slice_index v 16) (apply keep v) (map at_slot slots) (Makes (IsOpening registers set) v)
+      (λ e w h. let i = map_out at_slot slots w h in i.2 ∙ ap (alone i.0) e ∙ zeros_alone i.0)
       all_span

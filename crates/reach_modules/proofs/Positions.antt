@@ -2,7 +2,7 @@
 use Rattle.std.proofs.Common.{◌≡◌, ℕ, ◌+◌, ◌<◌, ◌↔◌, inl, inr, List, [], ◌∷◌, ◌++◌, Contains, Bool, true, false, IsTrue, sym, ◌∙◌, arith, if◌then◌else◌}
 use Rattle.std.proofs.lemmas.Bool.{cases_lt, false≢true}
 use Rattle.std.proofs.lemmas.List.Elements.{Contains-append_left, Contains-append_right, Contains-append_cases}
-use Rattle.map_modules.specs.Positions.{has}
+use Rattle.row_modules.specs.Positions.{has}
 use Rattle.reach_modules.proofs.Membership.{nothing_in, first_in, first_or_later_in}
 
 module _ (set i : ℕ) (old : List ℕ) (so_far : (k : ℕ) → Contains old k ↔ ((k < i) × IsTrue (has set k))) where

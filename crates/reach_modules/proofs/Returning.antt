@@ -4,12 +4,12 @@ use Rattle.row_modules.specs.Modules.{AreRows, IsCombination, SameModule}
 use Rattle.row_modules.specs.Maps.{IsLinear}
 use Rattle.row_modules.proofs.Laws.{combinations, generator, mapped_into, within_from_generators}
 use Rattle.map_modules.specs.Matrices.{apply, extension, linear_extension, with_slots, IsAffine}
-use Rattle.map_modules.proofs.Entries.{IsRow-matrix, IsRow-vector}
-use Rattle.map_modules.proofs.Linear.{apply_first, extension_sum}
+use Rattle.map_modules.proofs.Lemmas.{IsRow-matrix, IsRow-vector}
+use Rattle.map_modules.proofs.Lemmas.{apply_first, extension_sum}
 use Rattle.affine_prog.specs.declared.Program.{Program}
 use Rattle.affine_prog.specs.Programs.{exit_of, IsWellFormed}
 use Rattle.affine_prog.specs.Spans.{IsMapOf}
-use Rattle.affine_prog.proofs.Paths.{level_map}
+use Rattle.affine_prog.proofs.Lemmas.{level_map}
 use Rattle.reach_modules.specs.Made.{Makes, Spans, returned_of}
 use Rattle.reach_modules.specs.Moves.{IsReturn}
 use Rattle.reach_modules.proofs.Membership.{map_in, map_out}

@@ -4,9 +4,9 @@ use Rattle.row_modules.specs.Modules.{AreRows, IsCombination, IsModule}
 use Rattle.row_modules.specs.Maps.{IsLinear, Products}
 use Rattle.row_modules.proofs.Laws.{combinations, generator, mapped_into, module_least, spans_more, within_from_generators}
 use Rattle.map_modules.specs.Matrices.{product, apply}
-use Rattle.map_modules.proofs.Linear.{apply_second}
-use Rattle.map_modules.proofs.Entries.{IsRow-vector}
-use Rattle.map_modules.proofs.Products.{apply-product}
+use Rattle.map_modules.proofs.Lemmas.{apply_second}
+use Rattle.map_modules.proofs.Lemmas.{IsRow-vector}
+use Rattle.map_modules.proofs.Lemmas.{apply-product}
 use Rattle.reach_modules.specs.Made.{Makes, After, Spans, MakesEach}
 use Rattle.reach_modules.proofs.Membership.{flat_map_in, flat_map_out}
 

@@ -5,7 +5,7 @@ use Rattle.std.proofs.Math.ListN.{length-set}
 use Rattle.std.proofs.lemmas.List.{get_or-set_same, get_or-set_other, get_or_default}
 use Rattle.std.proofs.lemmas.List.Elements.{All-set, Contains-append_left, Contains-append_right, Contains-append_cases}
 use Rattle.std.proofs.lemmas.List.Sums.{sum_by-set}
-use Rattle.row_modules.specs.Modules.{IsCombination, IsWithin}
+use Rattle.row_modules.specs.Modules.{IsCombination, IsWithin, Either}
 use Rattle.row_modules.specs.Bases.{IsLeadingBasis, basis_length}
 use Rattle.row_modules.proofs.Laws.{spans_more, first_or_later, generator, within_from_generators}
 use Rattle.lead_basis.proofs.Laws.{basis_rows}
@@ -13,7 +13,7 @@ use Rattle.lead_basis.specs.Inserts.{IsBetween}
 use Rattle.reach_modules.specs.declared.Offer.{Offer}
 use Rattle.affine_prog.specs.Spans.{rows_at}
 use Rattle.reach_modules.specs.Counts.{row_count}
-use Rattle.reach_modules.specs.Offers.{offer, IsListed, InModule, Either, Keeps, Takes}
+use Rattle.reach_modules.specs.Offers.{offer, IsListed, InModule, Keeps, Takes}
 
 -- one node's rows are replaced
 module _ (old : List (List (List ℕ))) (u : ℕ) (new : List (List ℕ)) (within : u < length old) where

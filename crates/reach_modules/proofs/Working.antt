@@ -2,24 +2,23 @@
 use Rattle.std.proofs.Common.{◌≡◌, ℕ, ◌<◌, ◌+◌, ◌-◌, ◌*◌, ◌≤◌, inl, inr, List, [], ◌∷◌, ◌++◌, Contains, All, length, length-append, refl, sym, subst, ◌∙◌, arith}
 use Rattle.std.proofs.lemmas.List.Elements.{Contains-append_left, Contains-append_right, Contains-append_cases, All-contains, All-cons, All-weaker, All-contains_itself, All-head, All-tail}
 use Rattle.std.proofs.lemmas.List.Sums.{sum_by-cons}
-use Rattle.row_modules.specs.Modules.{AreRows, IsCombination, IsModule, IsWithin}
+use Rattle.row_modules.specs.Modules.{AreRows, Either, IsCombination, IsModule, IsWithin}
 use Rattle.row_modules.specs.Bases.{IsLeadingBasis, basis_length}
-use Rattle.row_modules.proofs.Laws.{combinations, spans_more, module_least, generator, within_from_generators}
+use Rattle.row_modules.proofs.Laws.{combinations, spans_more, module_least, generator, within_from_generators, either_rows}
 use Rattle.lead_basis.proofs.Laws.{length_bound}
 use Rattle.map_modules.specs.Matrices.{apply}
 use Rattle.affine_prog.specs.declared.Program.{Program}
 use Rattle.affine_prog.specs.Programs.{entry_of, IsWellFormed}
-use Rattle.affine_prog.specs.Laws.{LevelPathsStay}
 use Rattle.affine_prog.specs.Spans.{rows_at, IsStateAt, AreReached}
-use Rattle.affine_prog.proofs.Paths.{open_state}
+use Rattle.affine_prog.proofs.Lemmas.{open_state}
 use Rattle.reach_modules.specs.declared.Offer.{Offer}
 use Rattle.reach_modules.specs.Counts.{row_count}
 use Rattle.reach_modules.specs.Made.{Makes}
 use Rattle.reach_modules.specs.Moves.{Moves}
-use Rattle.reach_modules.specs.Offers.{offer, IsListed, IsOffer, InModule, Either, total, Keeps, Takes}
+use Rattle.reach_modules.specs.Offers.{offer, IsListed, IsOffer, InModule, total, Keeps, Takes}
 use Rattle.reach_modules.specs.Worklists.{IsClosed, IsSound, IsWorking, Works, Pushes}
 use Rattle.reach_modules.proofs.Membership.{nothing_in, first_in, later_in, first_or_later_in}
-use Rattle.reach_modules.proofs.InTurn.{all_rows, offered_rows, either_rows}
+use Rattle.reach_modules.proofs.InTurn.{all_rows, offered_rows}
 use Rattle.reach_modules.proofs.Spanning.{made_are_rows, applied_into}
 use Rattle.reach_modules.proofs.Moving.{state_moved, states_in}
 
@@ -27,13 +26,13 @@ pub states_are_rows : (program : Program) → IsWellFormed program → (u : ℕ)
 states_are_rows program formed u v s = (open_state program formed s.start s.is_start u v s.path).row
 
 -- what is offered for a row that states span, states span
-pub offers_sound : (program : Program) → IsWellFormed program → LevelPathsStay → (u : ℕ) (v : List ℕ) (offers : List Offer) → Pushes program u v offers → IsCombination 17 (IsStateAt program u) v
+pub offers_sound : (program : Program) → IsWellFormed program → (u : ℕ) (v : List ℕ) (offers : List Offer) → Pushes program u v offers → IsCombination 17 (IsStateAt program u) v
     → (w : ℕ) (x : List ℕ) → IsListed offers w x → IsCombination 17 (IsStateAt program w) x
-offers_sound program formed stays u v offers pushes own w x h =
+offers_sound program formed u v offers pushes own w x h =
     let states = states_are_rows program formed w in
     module_least 17 (IsCombination 17 (IsStateAt program w)) (combinations 17 (IsStateAt program w) states) (Makes (Moves program u w) v)
     (λ y (m, move, e). rw e (applied_into m (IsStateAt program u) (IsCombination 17 (IsStateAt program w)) (states_are_rows program formed u) (combinations 17 (IsStateAt program w) states)
-    (λ s state. generator 17 (IsStateAt program w) states (apply m s) (state_moved program formed stays u w s m state move)) v own))
+    (λ s state. generator 17 (IsStateAt program w) states (apply m s) (state_moved program formed u w s m state move)) v own))
     x ((pushes.spans w).there x (generator 17 (IsListed offers w) (offered_rows program.nodes offers pushes.are w) x h))
 
 -- what is offered to sound bases leaves them sound
@@ -92,7 +91,7 @@ module _ (program : Program) (done rest pending offers : List Offer) (o : Offer)
 
   still_spanned : (u : ℕ) → IsWithin 17 (Contains (rows_at new u)) (Either (IsListed (o ∷ done) u) (IsListed pending u))
   still_spanned u x h =
-      let rows = either_rows (IsListed (o ∷ done) u) (IsListed pending u) (offered_rows program.nodes (o ∷ done) done_are_now u) (offered_rows program.nodes pending pending_are_now u) in
+      let rows = either_rows 17 (IsListed (o ∷ done) u) (IsListed pending u) (offered_rows program.nodes (o ∷ done) done_are_now u) (offered_rows program.nodes pending pending_are_now u) in
       within_from_generators 17 (Either (Contains (rows_at bases u)) (IsListed pending u)) (Either (IsListed (o ∷ done) u) (IsListed pending u)) rows
       (λ y i. elim i [
         | inl k ↦ spans_more 17 (Either (IsListed done u) (IsListed (rest ++ o ∷ []) u)) (Either (IsListed (o ∷ done) u) (IsListed pending u))
@@ -138,13 +137,13 @@ measure_falls offers old new rest pending o before after all keeps takes =
     let e = length-append rest (o ∷ []) in let f = keeps.counted in let g = keeps.rises in omega arith
 
 -- at the end nothing is pending
-pub reached_at_end : (program : Program) (bases : List (List (List ℕ))) → IsWellFormed program → LevelPathsStay → Works program bases [] → AreReached program bases
-reached_at_end program bases formed stays works = record {
+pub reached_at_end : (program : Program) (bases : List (List (List ℕ))) → IsWellFormed program → Works program bases [] → AreReached program bases
+reached_at_end program bases formed works = record {
   each = w.nodes;
   exact = λ u within. record {
     there = w.sound u;
     back = module_least 17 (InModule bases u) (modules u) (IsStateAt program u)
-        (states_in program formed stays (InModule bases) w.closed.first
+        (states_in program formed (InModule bases) w.closed.first
         (λ v x s m h move. applied_into m (IsListed works.done v) (InModule bases x) (offered_rows program.nodes works.done w.done_are v) (modules x)
         (λ y k. w.closed.moves v x y m k move) s (done_span v s h)) u);
   };
@@ -170,7 +169,7 @@ pub record Turned (program : Program) (old bases new : List (List (List ℕ))) (
   pub so_far : WorksSoFar program old new pending before after
   pub falls : measure new pending < measure bases listed
 
-module _ (program : Program) (formed : IsWellFormed program) (stays : LevelPathsStay) (bases new : List (List (List ℕ))) (listed rest : List Offer) (o : Offer)
+module _ (program : Program) (formed : IsWellFormed program) (bases new : List (List (List ℕ))) (listed rest : List Offer) (o : Offer)
     (works : Works program bases listed) (is : listed ≡ rest ++ o ∷ []) where
   popped : IsWorking program works.done bases (rest ++ o ∷ [])
   popped = subst (IsWorking program works.done bases) is works.working
@@ -196,7 +195,7 @@ module _ (program : Program) (formed : IsWellFormed program) (stays : LevelPaths
       pub sound_after : IsSound program new
       sound_after =
           sound_with program formed taken bases new between after works.working.bases_are works.working.sound
-          (offers_sound program formed stays o.node o.row taken (subst (Pushes program o.node o.row) (sym same) pushes) own) keeps
+          (offers_sound program formed o.node o.row taken (subst (Pushes program o.node o.row) (sym same) pushes) own) keeps
 
       pub turn : (old : List (List (List ℕ))) (pending : List Offer) (before : ℕ) → WorksSoFar program old bases listed before between
           → Takes taken bases new rest pending between after → Turned program old bases new listed pending before after

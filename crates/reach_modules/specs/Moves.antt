@@ -2,14 +2,12 @@
 -- another, and each open path is made of such moves.
 --
 --   IsMatrixOf assigns m       m is the matrix of the assignments under some choice
---   IsOpening program q m      m is the map of an opening of procedure q
 --   IsReturn program s q m     m is the map of a level path of procedure q to its exit, as a caller with the slots s sees it
 --   EdgeMap program e v m      along the edge e, m is the map of a move to node v: of its assignments to its end, or of these
 --                              and a return of its call; or of these and an opening of its callee to the callee's entry
 --   Moves program u v m        along some edge from node u, m is the map of a move to node v
 --   IsFirst program v          v is what an opening of the start procedure makes of a start
 use Rattle.std.specs.Prelude.{◌≡◌, ◌⊎◌, ℕ, List, Contains}
-use Rattle.word_rows.specs.Rows.{IsRow}
 use Rattle.row_modules.specs.Maps.{Products}
 use Rattle.map_modules.specs.Matrices.{apply, extension}
 use Rattle.affine_prog.specs.declared.Program.{Program}
@@ -19,16 +17,13 @@ use Rattle.affine_prog.specs.declared.Kind.TheVariants.{Do, Call}
 use Rattle.affine_prog.specs.declared.Assign.{Assign}
 use Rattle.affine_prog.specs.Programs.{entry_of, slots_of, owner_of}
 use Rattle.affine_prog.specs.Assignments.{Choice, matrix_of}
-use Rattle.affine_prog.specs.LevelPaths.{opening_map}
 use Rattle.affine_prog.specs.OpenPaths.{Start}
+use Rattle.affine_prog.specs.Laws.{IsOpening}
 use Rattle.affine_prog.specs.Spans.{IsMapOf}
 use Rattle.reach_modules.specs.Made.{After}
 
 abbrev pub IsMatrixOf : List Assign → List ℕ → Type 0
 IsMatrixOf assigns m = (words : List ℕ) × Choice assigns words × (m ≡ matrix_of assigns words)
-
-abbrev pub IsOpening : Program → ℕ → List ℕ → Type 0
-IsOpening program q m = (words : List ℕ) × IsRow 16 words × (m ≡ opening_map program.registers (slots_of program q) words)
 
 abbrev pub IsReturn : Program → ℕ → ℕ → List ℕ → Type 0
 IsReturn program s q m = (callee : List ℕ) × IsMapOf program q callee × (m ≡ extension program.registers s callee)
@@ -37,7 +32,7 @@ abbrev pub KindMap : Program → ℕ → ℕ → Kind → ℕ → List ℕ → T
 KindMap program u to (Do assigns) v m = (v ≡ to) × IsMatrixOf assigns m
 KindMap program u to (Call q before) v m =
     ((v ≡ to) × After (IsReturn program (slots_of program (owner_of program u)) q) (IsMatrixOf before) m)
-    ⊎ ((v ≡ entry_of program q) × After (IsOpening program q) (IsMatrixOf before) m)
+    ⊎ ((v ≡ entry_of program q) × After (IsOpening program.registers (slots_of program q)) (IsMatrixOf before) m)
 
 abbrev pub EdgeMap : Program → Edge → ℕ → List ℕ → Type 0
 EdgeMap program e v m = KindMap program e.from e.to e.kind v m
@@ -49,4 +44,4 @@ pub record Moves (program : Program) (u v : ℕ) (m : List ℕ) : Type 0 where
   pub map : EdgeMap program along v m
 
 abbrev pub IsFirst : Program → List ℕ → Type 0
-IsFirst program v = Products apply (IsOpening program program.start) (Start program) v
+IsFirst program v = Products apply (IsOpening program.registers (slots_of program program.start)) (Start program) v

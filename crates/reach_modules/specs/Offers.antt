@@ -4,7 +4,6 @@
 --   IsListed offers u v       that offer is in the list
 --   IsOffer n o               o offers a row of 17 words to a node below n
 --   InModule bases u v        v is a combination of the rows of node u
---   Either P Q                the union of two sets
 --   total bases               the sum of the lengths
 --   Keeps offers old new before after     at every answer: offers were taken, and the counter rose, by at most the gain in length
 --   Takes offers old new waiting pending before after
@@ -12,7 +11,7 @@
 --                             and the counter rose by at least the gain in rows
 use Rattle.std.specs.Prelude.{◌≡◌, ℕ, ◌+◌, ◌<◌, ◌≤◌, ◌⊎◌, List, All, Contains, length, sum_by}
 use Rattle.word_rows.specs.Rows.{IsRow}
-use Rattle.row_modules.specs.Modules.{IsCombination, IsWithin}
+use Rattle.row_modules.specs.Modules.{Either, IsCombination, IsWithin}
 use Rattle.row_modules.specs.Bases.{IsLeadingBasis, basis_length}
 use Rattle.affine_prog.specs.Spans.{rows_at}
 use Rattle.reach_modules.specs.declared.Offer.{Offer}
@@ -30,9 +29,6 @@ pub record IsOffer (n : ℕ) (o : Offer) : Type 0 where
 
 abbrev pub InModule : List (List (List ℕ)) → ℕ → List ℕ → Type 0
 InModule bases u v = IsCombination 17 (Contains (rows_at bases u)) v
-
-abbrev pub Either : (List ℕ → Type 0) → (List ℕ → Type 0) → List ℕ → Type 0
-Either P Q v = P v ⊎ Q v
 
 abbrev pub total : List (List (List ℕ)) → ℕ
 total bases = sum_by basis_length bases

@@ -9,7 +9,7 @@
 --   ArePositions set positions           the positions below 16 of a set
 use Rattle.std.specs.Prelude.{◌≡◌, ℕ, ◌<◌, ◌↔◌, List, [], Contains, length, slice_index, slice_index_or, IsTrue}
 use Rattle.row_modules.specs.Modules.{SameModule}
-use Rattle.map_modules.specs.Positions.{has}
+use Rattle.row_modules.specs.Positions.{has}
 use Rattle.affine_prog.specs.declared.Program.{Program}
 use Rattle.affine_prog.specs.declared.Edge.{Edge}
 use Rattle.affine_prog.specs.declared.Kind.TheVariants.{Do}

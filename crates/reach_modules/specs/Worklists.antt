@@ -8,7 +8,7 @@
 --   IsWorking program done bases pending  what the loop keeps, the rows that were pushed being done
 --   Works program bases pending           that, for some done rows
 use Rattle.std.specs.Prelude.{◌≡◌, ℕ, List, All, Contains, length}
-use Rattle.row_modules.specs.Modules.{IsWithin, SameModule}
+use Rattle.row_modules.specs.Modules.{IsWithin, SameModule, Either}
 use Rattle.row_modules.specs.Bases.{IsLeadingBasis}
 use Rattle.map_modules.specs.Matrices.{apply}
 use Rattle.affine_prog.specs.declared.Program.{Program}
@@ -19,7 +19,7 @@ use Rattle.reach_modules.specs.declared.Offer.{Offer}
 use Rattle.reach_modules.specs.Made.{Makes}
 use Rattle.reach_modules.specs.Moves.{EdgeMap, Moves, IsFirst}
 use Rattle.reach_modules.specs.Tables.{AlongSome}
-use Rattle.reach_modules.specs.Offers.{IsListed, IsOffer, InModule, Either}
+use Rattle.reach_modules.specs.Offers.{IsListed, IsOffer, InModule}
 
 pub record EdgeOffers (program : Program) (e : Edge) (v : List ℕ) (offers : List Offer) : Type 0 where
   pub are : All (IsOffer program.nodes) offers

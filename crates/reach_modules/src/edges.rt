@@ -5,9 +5,10 @@ ghost use Rattle.word_rows.specs.Rows.{IsRow};
 ghost use Rattle.row_modules.specs.Modules.{AreRows, SameModule};
 ghost use Rattle.affine_prog.specs.Assignments.{position_of};
 ghost use Rattle.affine_prog.specs.Programs.{slots_of, owner_of, IsWellFormed};
+ghost use Rattle.affine_prog.specs.Laws.{IsOpening};
 ghost use Rattle.affine_prog.specs.Spans.{IsMapOf};
 ghost use Rattle.reach_modules.specs.Made.{MakesEach};
-ghost use Rattle.reach_modules.specs.Moves.{IsOpening, IsReturn};
+ghost use Rattle.reach_modules.specs.Moves.{IsReturn};
 ghost use Rattle.reach_modules.specs.Offers.{offer};
 ghost use Rattle.reach_modules.specs.Tables.{AreOut, ArePlaces};
 ghost use Rattle.reach_modules.specs.Worklists.{EdgeOffers, Pushes};
@@ -93,7 +94,7 @@ pub(crate) fn opened(
 ) -> Result<Items<Row<17>>, Memory>
     requires formed { IsWellFormed program.now }
     requires proc { callee < length program.now.procs }
-    ensures { IfOk result (MakesEach (IsOpening program.now callee) rows.now) }
+    ensures { IfOk result (MakesEach (IsOpening program.now.registers (slots_of program.now callee)) rows.now) }
 {
     let sets = sets_of(program, callee);
     let slots = positions(alloc, sets.1)?;

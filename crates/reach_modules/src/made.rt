@@ -1,7 +1,7 @@
 //! What assignments, openings and returns make of a row.
 
 ghost use Rattle.std.specs.Prelude.{◌≡◌, ◌<◌, ◌↔◌, ◌++◌, ◌∷◌, [], All, flat_map, OnOk, IfOk, bit_and, if◌then◌else◌};
-ghost use Rattle.map_modules.specs.Positions.{has};
+ghost use Rattle.row_modules.specs.Positions.{has};
 ghost use Rattle.affine_prog.specs.Assignments.{position_of};
 ghost use Rattle.reach_modules.specs.Made.{Makes, Spans, images_of, opened, opened_of, returned_of};
 ghost use Rattle.reach_modules.specs.Moves.{IsMatrixOf};

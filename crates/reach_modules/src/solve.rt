@@ -10,7 +10,7 @@ use crate::places::{edges_out, exits_of, numbers_to};
 use crate::start::{empty_bases, first_offers};
 use crate::worklist::{push_all, take_all};
 use crate::{Reach, Tables};
-use affine_prog::{Program, paths_end_at_nodes};
+use affine_prog::Program;
 use lead_basis::{Memory, Steps};
 use map_modules::MatBasis;
 use sqlite_items::Items;
@@ -30,7 +30,7 @@ pub fn reach<L: Ledger>(
     requires levels { AreLevels program.now levels.now }
     ensures exact { IfOk result (λ reached. AreReached program.now reached) }
     ensures never_falls { steps.old ≤ steps.new }
-    ensures counts_no_more { steps.new ≤ steps.old + 1088 * program.now.nodes }
+    ensures counts_no_more { steps.new ≤ steps.old + 64 * program.now.nodes * (program.now.width + 1) }
     ensures counts_rows { IfOk result (λ reached. steps.old + row_count reached ≤ steps.new) }
 {
     let places = exits_of(alloc, program)?;
@@ -48,7 +48,7 @@ pub fn reach_by_exits<L: Ledger>(
     requires exits { AreExits program.now exits.now }
     ensures exact { IfOk result (λ reached. AreReached program.now reached) }
     ensures never_falls { steps.old ≤ steps.new }
-    ensures counts_no_more { steps.new ≤ steps.old + 1088 * program.now.nodes }
+    ensures counts_no_more { steps.new ≤ steps.old + 64 * program.now.nodes * (program.now.width + 1) }
     ensures counts_rows { IfOk result (λ reached. steps.old + row_count reached ≤ steps.new) }
 {
     let places = numbers_to(alloc, program.procs.len())?;
@@ -67,7 +67,7 @@ fn solve<L: Ledger>(
     requires places { ArePlaces program.now summaries.now places }
     ensures exact { IfOk result (λ reached. AreReached program.now reached) }
     ensures never_falls { steps.old ≤ steps.new }
-    ensures counts_no_more { steps.new ≤ steps.old + 1088 * program.now.nodes }
+    ensures counts_no_more { steps.new ≤ steps.old + 64 * program.now.nodes * (program.now.width + 1) }
     ensures counts_rows { IfOk result (λ reached. steps.old + row_count reached ≤ steps.new) }
 {
     let out = edges_out(alloc, program)?;
@@ -75,7 +75,6 @@ fn solve<L: Ledger>(
     let firsts = first_offers(alloc, program)?;
     let mut bases = empty_bases(alloc, program.nodes)?;
     let mut pending = Items::new(alloc);
-    paths_end_at_nodes();
     take_all(&mut bases, &mut pending, firsts.as_slice(), steps)?;
     push_all(
         alloc,

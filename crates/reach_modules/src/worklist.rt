@@ -11,7 +11,7 @@ ghost use Rattle.reach_modules.specs.Worklists.{IsSound, Works};
 
 use crate::edges::row_offers;
 use crate::{Offer, Tables};
-use affine_prog::{Program, paths_end_at_nodes};
+use affine_prog::Program;
 use lead_basis::{Basis, Memory, Steps};
 use map_modules::MatBasis;
 use sqlite_items::Items;
@@ -81,7 +81,6 @@ pub(crate) fn push_all<L: Ledger>(
     ensures counts_no_more { steps.new + total bases.old.items ≤ steps.old + total bases.new.items }
     ensures counts_rows { OnOk result (row_count bases.new.items + steps.old ≤ row_count bases.old.items + steps.new) }
 {
-    paths_end_at_nodes();
     while let Some(row) = pending.pop() {
         let offers = row_offers(alloc, program, summaries, tables, &row)?;
         take_all(bases, pending, offers.as_slice(), steps)?;

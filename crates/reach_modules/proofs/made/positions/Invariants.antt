@@ -1,5 +1,5 @@
 use Rattle.std.proofs.Common.{◌↔◌, ℕ, ◌<◌, Contains, IsTrue}
-use Rattle.map_modules.specs.Positions.{has}
+use Rattle.row_modules.specs.Positions.{has}
 use Rattle.reach_modules.proofs.made.positions.Given as goal
 
 abbrev pub invariant-loop-i : goal.invariant-loop-i
