@@ -3,3 +3,4 @@ pub mod Apart
 pub mod Found
 pub mod Held
 pub mod Laws
+pub mod BytesRead

@@ -10,7 +10,10 @@
 --   e_phentsize bytes      the size of one program header
 --   e_phnum bytes          the number of program headers
 --   has_bit bit flags      the bit of this value is set
-use Rattle.std.specs.Prelude.{ℕ, Bool, ◌==◌, not, bit_and, List, drop}
+--   unit_of bytes          what addresses of instructions are multiples of: RISC-V ELF psABI, "File Header".
+--                          It is 2 where bit 0x1 of e_flags says that the file has compressed instructions,
+--                          else 4
+use Rattle.std.specs.Prelude.{ℕ, Bool, ◌==◌, not, bit_and, List, drop, if◌then◌else◌}
 use Rattle.byteorder.specs.Endian.{little_number}
 
 unfoldable pub little_at : ℕ → List ℕ → ℕ → ℕ
@@ -39,3 +42,6 @@ e_phnum bytes = little_at 2 bytes 56
 
 abbrev pub has_bit : ℕ → ℕ → Bool
 has_bit bit flags = not (bit_and flags bit == 0)
+
+abbrev pub unit_of : List ℕ → ℕ
+unit_of bytes = if has_bit 0x1 (e_flags bytes) then 2 else 4

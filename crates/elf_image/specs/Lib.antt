@@ -3,3 +3,5 @@ pub mod Headers
 pub mod Segments
 pub mod Refusals
 pub mod Images
+pub mod Ranges
+pub mod Fetches

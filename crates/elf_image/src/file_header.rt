@@ -1,7 +1,7 @@
 //! The file header, the first 64 bytes: System V ABI, "ELF Header".
 
 ghost use Rattle.std.specs.Prelude.{◌≡◌, ◌≤◌, ◌+◌, ◌*◌, length, OnOk};
-ghost use Rattle.elf_image.specs.Fields.{e_type, e_machine, e_entry, e_phoff, e_flags, e_phentsize, e_phnum};
+ghost use Rattle.elf_image.specs.Fields.{e_type, e_machine, e_entry, e_phoff, e_flags, e_phentsize, e_phnum, unit_of};
 ghost use Rattle.elf_image.specs.Refusals.{IsVerdict, identity_refusal, machine_refusal, table_refusal};
 
 use crate::fields::{half_at, word_at, xword_at};
@@ -131,6 +131,18 @@ pub fn e_phoff(bytes: &[u8]) -> u64
     ensures { result ≡ e_phoff bytes.now }
 {
     xword_at(bytes, 32)
+}
+
+/// What addresses of instructions are multiples of.
+pub fn unit(bytes: &[u8]) -> u8
+    requires { 64 ≤ length bytes.now }
+    ensures { result ≡ unit_of bytes.now }
+{
+    if e_flags(bytes) & EF_RISCV_RVC != 0 {
+        2
+    } else {
+        4
+    }
 }
 
 /// The flags of the machine.

@@ -2,8 +2,9 @@
 //!
 //! [`read_image`] says of any bytes the first condition that refuses them, or gives their image: the
 //! entry, the kept segments and the bytes. Every condition is one on the whole list of bytes, so no
-//! header, whatever it says, leads outside them. An image answers which byte is loaded at an address, and
-//! which code word. What the code words mean is left to others.
+//! header, whatever it says, leads outside them. An image answers which byte is loaded at an address,
+//! which code word, and what instruction word is fetched there, by the file's unit. What the words mean is
+//! left to others.
 //!
 //! ```text
 //! let image = read_image(alloc, &bytes)?;
@@ -11,12 +12,14 @@
 //! ```
 #![tactic(auto)]
 
+mod fetched;
 mod fields;
 mod file_header;
 mod header_table;
 mod image;
 mod kept;
 mod program_header;
+mod range;
 mod read;
 mod refusal;
 mod segment;
@@ -24,7 +27,9 @@ mod symbol;
 #[cfg(test)]
 mod tests;
 
+pub use fetched::{Fetched, fetch_length};
 pub use image::Image;
+pub use range::Range;
 pub use read::read_image;
 pub use refusal::ElfRefusal;
 pub use segment::Segment;

@@ -1,11 +1,11 @@
 //! Reading an image.
 
 ghost use Rattle.std.specs.Prelude.{◌≡◌, ◌≢◌, ◌≤◌, length, [], None, Some, IfOk, IfErr, OnOk};
-ghost use Rattle.elf_image.specs.Fields.{e_entry};
+ghost use Rattle.elf_image.specs.Fields.{e_entry, unit_of};
 ghost use Rattle.elf_image.specs.Segments.{segments_of};
 ghost use Rattle.elf_image.specs.Refusals.{refusal_of};
 
-use crate::file_header::{check_identity, check_machine, check_table, e_entry};
+use crate::file_header::{check_identity, check_machine, check_table, e_entry, unit};
 use crate::header_table::{check_headers, program_headers};
 use crate::image::Image;
 use crate::kept::{check_entry, check_kept, kept_headers, segments};
@@ -21,6 +21,7 @@ pub fn read_image(alloc: Global, bytes: &[u8]) -> Result<Image, ElfRefusal>
     ensures refused { IfErr result (λ e. e ≢ ElfRefusal.Memory → refusal_of bytes.now ≡ Some e) }
     ensures file { IfOk result (λ image. image.file ≡ bytes.now) }
     ensures entry { IfOk result (λ image. image.entry ≡ e_entry bytes.now) }
+    ensures unit { IfOk result (λ image. image.unit ≡ unit_of bytes.now) }
     ensures segments { IfOk result (λ image. image.segments ≡ segments_of bytes.now) }
     ensures symbols { IfOk result (λ image. image.symbols ≡ []) }
 {
@@ -28,6 +29,7 @@ pub fn read_image(alloc: Global, bytes: &[u8]) -> Result<Image, ElfRefusal>
     let file = Items::from_slice(alloc, bytes).map_err(|_| ElfRefusal::Memory)?;
     Ok(Image {
         entry: e_entry(bytes),
+        unit: unit(bytes),
         file,
         segments: Items::from_vec(segments),
         symbols: Items::new(alloc),

@@ -3,6 +3,9 @@
 ghost use Rattle.std.specs.Prelude.{◌≡◌, ◌≤◌, ◌+◌, ◌-◌, ◌^◌, length, IsTrue};
 ghost use Rattle.std.specs.Option.{option_copied};
 ghost use Rattle.elf_image.specs.Segments.{holds, shares_address, holds_code, byte_in, word_in, segment_with, code_segment};
+ghost use Rattle.elf_image.specs.Ranges.{range_of};
+
+use crate::range::Range;
 
 /// A range of `size` addresses from `address` on. The first `stored` of its bytes are those of the file
 /// from `offset` on, and the rest are 0.
@@ -38,6 +41,16 @@ impl Segment {
             && self.address <= address
             && self.size >= 4
             && address - self.address <= self.size - 4
+    }
+
+    /// Its addresses.
+    pub(crate) fn range(&self) -> Range
+        ensures { result ≡ range_of self.now }
+    {
+        Range {
+            address: self.address,
+            size: self.size,
+        }
     }
 
     /// The byte at an address of the segment.

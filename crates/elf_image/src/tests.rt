@@ -1,6 +1,6 @@
 //! Tables of a small file that is cut off or changed in one place, and its image.
 
-use crate::{ElfRefusal, Segment, read_image};
+use crate::{ElfRefusal, Fetched, Segment, fetch_length, read_image};
 use std::alloc::{AllocError, Global};
 use std::process::Abort;
 use std::test::Fail;
@@ -176,5 +176,15 @@ fn bytes_are_loaded_and_the_rest_is_zero(rt: HostRuntime) -> Result<(), Fail> {
     for (address, word) in words {
         assert_eq!(rt; image.code_word_at(address), word);
     }
+    let first = Fetched {
+        word: 0x0050_0513,
+        length: 4,
+    };
+    assert_eq!(rt; image.code_at(0x10078), Some(first));
+    assert_eq!(rt; image.code_at(0x1007a), None);
+    assert_eq!(rt; image.code_at(0x10088), None);
+    assert_eq!(rt; image.unit, 4);
+    assert_eq!(rt; fetch_length(2, 0x15), 2);
+    assert_eq!(rt; fetch_length(2, 0x13), 4);
     Ok(())
 }
