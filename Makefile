@@ -1,17 +1,48 @@
-# The main job on a file of the repository: proved, built and run, or run at once without a proof.
-FILE = examples/one_register.elf
-TRACK = a0
+# Short ways to try, to build and to test the analyser: `make` lists them.
+PROGRAM = crates/analyser_main/out/analyser_main
+EXAMPLE = examples/saved_registers.elf
+SLOTS = 0x10010:-8,0x10010:-16,0x10044:-8
+FILE = $(EXAMPLE)
+TRACK = sp,ra,s0,a0$(if $(filter $(EXAMPLE),$(FILE)),$(COMMA)$(SLOTS))
+COMMA = ,
+export FILE TRACK
 
-.PHONY: demo try list test
+.PHONY: help demo analyse list build test
 
-demo:
-	cd crates/analyser_main && rt run -- analyse ../../$(FILE) --track $(TRACK)
+help:
+	@echo 'make demo                       the report of $(EXAMPLE)    under a minute'
+	@echo 'make analyse FILE=F TRACK=LIST  the report of F for the names of LIST          under a minute'
+	@echo 'make list FILE=F                the code of F that can be reached              under a minute'
+	@echo 'make build                      proves and builds the program                  half an hour or more where nothing is kept'
+	@echo 'make test                       the whole test, rt ci                          an hour or more where nothing is kept'
+	@echo
+	@echo 'demo, analyse and list build anew and prove nothing; rt ci proves the same sources.'
+	@echo 'make build leaves the program at $(PROGRAM); run it as'
+	@echo '  $(PROGRAM) analyse FILE --track LIST'
 
-try:
-	cd crates/analyser_main && rt try --data file.elf=../../$(FILE) -- analyse file.elf --track $(TRACK)
+# What the program, built without proofs, says to an order about `file.elf`, which is FILE. Its status is told and is no
+# fault of make; a build that fails is one.
+define unproved
+@case $$FILE in /*) ;; *) FILE=$$PWD/$$FILE ;; esac; \
+if test -f "$$FILE"; then set -- --data "file.elf=$$FILE"; else set --; fi; \
+log=$$(mktemp) && trap 'rm -f "$$log"' EXIT && cd crates/analyser_main && \
+{ rt try "$$@" -- $(1) 2>"$$log"; status=$$?; } && \
+if grep -q '^run=ended' "$$log"; \
+then echo "make: the program ended with status $$status. This build is unproved; rt ci proves the same sources." >&2; \
+else cat "$$log" >&2; exit 1; fi
+endef
+
+demo: analyse
+
+analyse:
+	$(call unproved,analyse file.elf --track "$$TRACK")
 
 list:
-	cd crates/analyser_main && rt try --data file.elf=../../$(FILE) -- list file.elf
+	$(call unproved,list file.elf)
+
+build:
+	@cd crates/analyser_main && rt run -- list ../../examples/one_register.elf
+	@echo 'make: built, proved: $(PROGRAM)'
 
 test:
 	rt ci
