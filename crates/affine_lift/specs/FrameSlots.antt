@@ -1,0 +1,85 @@
+-- Loads and stores on the frame. An offset is a word: an address less the stack pointer at the procedure's entry, wrapping
+-- at 2^64. The slot n bytes below that pointer is the word of the eight bytes from the offset 2^64 - n on.
+--
+--   slot_offset n                  the offset of the slot n bytes below
+--   access_of instr offset         the offset of a load's or a store's first byte, where its base register has one:
+--                                  offset r is the one of register r
+--   is_slot_at p e name            the name is the slot of procedure p at the offset e
+--   loaded names p op access       what a load gives: LD of exactly a tracked slot of p its word, any other any word
+--   width_of op                    how many bytes a store sets
+--   is_byte_of n e                 the byte at the offset e is one of the eight of the slot n bytes below
+--   touches width e n              one of so many bytes from e on is
+--   store_of instr access          the store of an instruction, where its offset is known
+--   stored_word names s k n        what a store gives to the slot n bytes below at position k: SD of exactly the slot the
+--                                  register, any other any word
+--   stored names p s item          the assignment that a store makes to a name with its position, if that is a slot of p
+--                                  which it touches
+--   stores_of names p s            all of them, in the order of the positions
+use Rattle.std.specs.Prelude.{ℕ, ◌+◌, ◌-◌, ◌^◌, ℤ, Bool, false, true, ◌&&◌, nat_lt, List, [], Option, Some, None, option_map, position, if◌then◌else◌, ◌==◌, filter_map}
+use Rattle.std.specs.List.{enumerate_from, list_any, range_with_len}
+use Rattle.std.specs.Option.{option_map_or}
+use Rattle.word_rows.specs.Words.{word}
+use Rattle.affine_prog.specs.declared.Assign.{Assign}
+use Rattle.affine_prog.specs.declared.Assign.TheVariants.{Any}
+use Rattle.flow_points.specs.Flows.{plus}
+use Rattle.report_text.specs.declared.names.Name.{Name}
+use Rattle.report_text.specs.declared.names.Name.TheVariants.{Register, Slot}
+use Rattle.rv_decode.specs.declared.instructions.Instr.{Instr}
+use Rattle.rv_decode.specs.declared.instructions.Instr.TheVariants.{Load, Store}
+use Rattle.rv_decode.specs.declared.instructions.LoadOp.{LoadOp}
+use Rattle.rv_decode.specs.declared.instructions.LoadOp.TheVariants.{Ld}
+use Rattle.rv_decode.specs.declared.instructions.StoreOp.{StoreOp}
+use Rattle.rv_decode.specs.declared.instructions.StoreOp.TheVariants.{Sb, Sh, Sw, Sd}
+use Rattle.affine_lift.specs.declared.value.Value.{Value}
+use Rattle.affine_lift.specs.declared.value.Value.TheVariants.{Held, Unknown}
+use Rattle.affine_lift.specs.declared.store.FrameStore.{FrameStore}
+use Rattle.affine_lift.specs.Values.{assigned, multiple}
+
+abbrev pub slot_offset : ℕ → ℕ
+slot_offset n = 2 ^ 64 - n
+
+abbrev pub access_of : Instr → (ℕ → Option ℕ) → Option ℕ
+access_of (Load op rd rs1 imm) offset = option_map (λ o. plus o imm) (offset rs1)
+access_of (Store op rs1 rs2 imm) offset = option_map (λ o. plus o imm) (offset rs1)
+access_of instr offset = None
+
+abbrev pub is_slot_at : ℕ → ℕ → Name → Bool
+is_slot_at p e (Register r) = false
+is_slot_at p e (Slot q n) = q == p && e == slot_offset n
+
+abbrev pub loaded : List Name → ℕ → LoadOp → Option ℕ → Value
+loaded names p Ld (Some e) = option_map_or Held (position (is_slot_at p e) names) Unknown
+loaded names p op access = Unknown
+
+abbrev pub width_of : StoreOp → ℕ
+width_of Sb = 1
+width_of Sh = 2
+width_of Sw = 4
+width_of Sd = 8
+
+abbrev pub is_byte_of : ℕ → ℕ → Bool
+is_byte_of n e = nat_lt (word (e + n)) 8
+
+abbrev pub touches : ℕ → ℕ → ℕ → Bool
+touches width e n = list_any (λ i. is_byte_of n (e + i)) (range_with_len 0 width)
+
+abbrev pub store_of : Instr → Option ℕ → Option FrameStore
+store_of (Store op rs1 rs2 imm) (Some e) = Some (record { op = op; offset = e; register = rs2 })
+store_of instr access = None
+
+abbrev pub is_whole : StoreOp → Bool
+is_whole Sd = true
+is_whole op = false
+
+abbrev pub stored_word : List Name → FrameStore → ℕ → ℕ → Assign
+stored_word names s k n = if is_whole s.op && s.offset == slot_offset n then assigned names k (multiple 1 s.register) else Any k
+
+abbrev pub stored_in : List Name → ℕ → FrameStore → ℕ → Name → Option Assign
+stored_in names p s k (Register r) = None
+stored_in names p s k (Slot q n) = if q == p && touches (width_of s.op) s.offset n then Some (stored_word names s k n) else None
+
+abbrev pub stored : List Name → ℕ → FrameStore → ℕ × Name → Option Assign
+stored names p s item = stored_in names p s item.0 item.1
+
+abbrev pub stores_of : List Name → ℕ → FrameStore → List Assign
+stores_of names p s = filter_map (stored names p s) (enumerate_from 0 names)

@@ -1,0 +1,5 @@
+pub mod Tracking
+pub mod Values
+pub mod FrameSlots
+pub mod Effects
+pub mod Lifting

@@ -1,0 +1,24 @@
+//! From code to programs: the names of a track list, and the program over affine assignments that stands for the code
+//! of an image with these names.
+//!
+//! [`read_tracked`] reads a list of names, registers and frame slots, or says which item is none and why. [`lift`] gives
+//! the program: a node for each point and one more for the exit of each procedure, an edge for each way on, and on it
+//! what the point's instruction does to the tracked names, as assignments. What an assignment can't tell exactly is any
+//! word. [`slot_writes`] gives the slots that a point assigns. What the program's paths make of the names, and whether a
+//! machine follows them, is left to others.
+//!
+//! ```text
+//! let tracked = read_tracked(alloc, "a0,sp,0x10080:-8", &points)?;
+//! let program = lift(alloc, &points, &offsets, &tracked)?; // node 0 is point 0
+//! ```
+#![tactic(auto)]
+
+mod names;
+mod program;
+mod refusal;
+mod store;
+mod value;
+
+pub use names::read_tracked;
+pub use program::lift;
+pub use refusal::TrackRefusal;
