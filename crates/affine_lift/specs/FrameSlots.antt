@@ -2,6 +2,7 @@
 -- at 2^64. The slot n bytes below that pointer is the word of the eight bytes from the offset 2^64 - n on.
 --
 --   slot_offset n                  the offset of the slot n bytes below
+--   base_of instr                  the base register of a load or a store, and what is added to it
 --   access_of instr offset         the offset of a load's or a store's first byte, where its base register has one:
 --                                  offset r is the one of register r
 --   is_slot_at p e name            the name is the slot of procedure p at the offset e
@@ -15,13 +16,13 @@
 --   stored names p s item          the assignment that a store makes to a name with its position, if that is a slot of p
 --                                  which it touches
 --   stores_of names p s            all of them, in the order of the positions
-use Rattle.std.specs.Prelude.{ℕ, ◌+◌, ◌-◌, ◌^◌, ℤ, Bool, false, true, ◌&&◌, nat_lt, List, [], Option, Some, None, option_map, position, if◌then◌else◌, ◌==◌, filter_map}
+use Rattle.std.specs.Prelude.{ℕ, ◌+◌, ◌-◌, ◌^◌, ℤ, Bool, false, true, ◌&&◌, nat_lt, List, Option, Some, None, position, if◌then◌else◌, ◌==◌, filter_map}
 use Rattle.std.specs.List.{enumerate_from, list_any, range_with_len}
 use Rattle.std.specs.Option.{option_map_or}
 use Rattle.word_rows.specs.Words.{word}
 use Rattle.affine_prog.specs.declared.Assign.{Assign}
 use Rattle.affine_prog.specs.declared.Assign.TheVariants.{Any}
-use Rattle.flow_points.specs.Flows.{plus}
+use Rattle.frame_offsets.specs.Frames.{moved}
 use Rattle.report_text.specs.declared.names.Name.{Name}
 use Rattle.report_text.specs.declared.names.Name.TheVariants.{Register, Slot}
 use Rattle.rv_decode.specs.declared.instructions.Instr.{Instr}
@@ -36,12 +37,15 @@ use Rattle.affine_lift.specs.declared.store.FrameStore.{FrameStore}
 use Rattle.affine_lift.specs.Values.{assigned, multiple}
 
 abbrev pub slot_offset : ℕ → ℕ
-slot_offset n = 2 ^ 64 - n
+slot_offset n = word (2 ^ 64 - n)
+
+abbrev pub base_of : Instr → Option (ℕ × ℤ)
+base_of (Load op rd rs1 imm) = Some (rs1, imm)
+base_of (Store op rs1 rs2 imm) = Some (rs1, imm)
+base_of instr = None
 
 abbrev pub access_of : Instr → (ℕ → Option ℕ) → Option ℕ
-access_of (Load op rd rs1 imm) offset = option_map (λ o. plus o imm) (offset rs1)
-access_of (Store op rs1 rs2 imm) offset = option_map (λ o. plus o imm) (offset rs1)
-access_of instr offset = None
+access_of instr offset = moved (base_of instr) offset
 
 abbrev pub is_slot_at : ℕ → ℕ → Name → Bool
 is_slot_at p e (Register r) = false

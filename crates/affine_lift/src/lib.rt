@@ -13,9 +13,12 @@
 //! ```
 #![tactic(auto)]
 
+mod effect;
+mod frame;
 mod names;
 mod program;
 mod refusal;
+mod registers;
 mod store;
 mod value;
 
