@@ -1,1 +1,5 @@
 mod OffsetWords
+mod FirstPlaces
+mod Nodes
+mod PositionSets
+mod Formed

@@ -10,9 +10,13 @@
 --   is_slot_of a name                  the name is a slot of the procedure with the entry a
 --   proc_of points names a             the procedure with the entry a
 --   owners_in points                   the number of the procedure of each node
---   edges_of points assigns c          the edges from c, where the instruction makes these assignments: a call edge from a
---                                      call to the point behind it, one without assignments from a return to the exit, and
---                                      else one for each point where the flow goes on, in the order of `successors_of`
+--   edges_by points assigns u p flow   the edges from node u of procedure p, where its instruction makes these assignments and
+--                                      has this flow: a call edge from a call to the point behind it, one without
+--                                      assignments from a return to the exit, and else one for each point where the flow
+--                                      goes on, in the order of `successors_of`
+--   edges_of points assigns c          the edges from the point c
+--   edges_along points offset names cs the edges from each point of a list in turn
+--   offset_from points offsets c r     the offset that a table of all points tells of register r at c
 --   TellsOffsets points offset         offset c r is the offset of register r at the point c, if it has one there
 --   IsLifted points names program      the program is that of the points with these names
 --   IsSlotAt names k                   the name at position k is a slot
@@ -33,6 +37,7 @@ use Rattle.flow_points.specs.declared.steps.Point.{Point}
 use Rattle.flow_points.specs.declared.steps.CodePoint.{CodePoint}
 use Rattle.flow_points.specs.declared.steps.Flow.{Flow}
 use Rattle.flow_points.specs.declared.steps.Flow.TheVariants.{Call, Return}
+use Rattle.frame_offsets.specs.Frames.{offset_at}
 use Rattle.report_text.specs.declared.names.Name.{Name}
 use Rattle.report_text.specs.declared.names.Name.TheVariants.{Register, Slot}
 use Rattle.affine_lift.specs.Effects.{effect_of, AreOffsetsAt, IsEffect}
@@ -68,15 +73,19 @@ proc_of points names a =
 abbrev pub owners_in : FlowPoints → List ℕ
 owners_in points = map (number_of points) (entries_of points.points ++ points.procedures)
 
-abbrev pub edges_by : FlowPoints → List Assign → Point → Flow → List Edge
-edges_by points assigns from (Call target next) =
-    edge (node_of points from) (node_of points (point from.proc_entry next)) (CallEdge (number_of points target) assigns) ∷ []
-edges_by points assigns from Return = edge (node_of points from) (exit_of points from.proc_entry) (Do []) ∷ []
-edges_by points assigns from flow =
-    map (λ to. edge (node_of points from) (node_of points to) (Do assigns)) (successors_of from.proc_entry flow)
+abbrev pub edges_by : FlowPoints → List Assign → ℕ → ℕ → Flow → List Edge
+edges_by points assigns u p (Call target next) = edge u (node_of points (point p next)) (CallEdge (number_of points target) assigns) ∷ []
+edges_by points assigns u p Return = edge u (exit_of points p) (Do []) ∷ []
+edges_by points assigns u p flow = map (λ to. edge u (node_of points to) (Do assigns)) (successors_of p flow)
 
 abbrev pub edges_of : FlowPoints → List Assign → CodePoint → List Edge
-edges_of points assigns c = edges_by points assigns c.point c.flow
+edges_of points assigns c = edges_by points assigns (node_of points c.point) c.point.proc_entry c.flow
+
+abbrev pub edges_along : FlowPoints → (CodePoint → ℕ → Option ℕ) → List Name → List CodePoint → List Edge
+edges_along points offset names cs = flat_map (λ c. edges_of points (effect_of names c (offset c)) c) cs
+
+abbrev pub offset_from : FlowPoints → List (Option ℕ) → CodePoint → ℕ → Option ℕ
+offset_from points offsets c r = offset_at offsets (node_of points c.point) r
 
 abbrev pub TellsOffsets : List CodePoint → (CodePoint → ℕ → Option ℕ) → Type 0
 TellsOffsets points offset = (c : CodePoint) → Contains points c → AreOffsetsAt points c (offset c)
@@ -90,7 +99,7 @@ pub record IsLifted (points : FlowPoints) (names : List Name) (program : Program
   pub start : program.start ≡ number_of points points.entry
   pub offset : CodePoint → ℕ → Option ℕ
   pub offsets_are : TellsOffsets points.points offset
-  pub edges : program.edges ≡ flat_map (λ c. edges_of points (effect_of names c (offset c)) c) points.points
+  pub edges : program.edges ≡ edges_along points offset names points.points
 
 abbrev pub IsSlotAt : List Name → ℕ → Type 0
 IsSlotAt names k = (p n : ℕ) × (slice_get names k ≡ Some (Slot p n))
