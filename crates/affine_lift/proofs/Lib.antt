@@ -2,4 +2,9 @@ mod OffsetWords
 mod FirstPlaces
 mod Nodes
 mod PositionSets
+mod Owners
+mod EdgesFormed
 mod Formed
+mod PositionBits
+mod EffectsSeen
+mod Procedures

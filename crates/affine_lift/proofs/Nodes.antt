@@ -3,7 +3,6 @@ use Rattle.std.proofs.Common.{◌≡◌, ◌∙◌, ℕ, suc, ◌<◌, ◌≤◌
 use Rattle.std.specs.List.{dedup, dedup_from}
 use Rattle.std.proofs.lemmas.List.{get_or-map, length-map, map_push, take_more}
 use Rattle.std.proofs.lemmas.Option.{get_or_from_slice_get, slice_get_read, slice_get_within}
-use Rattle.flow_points.specs.Walks.{point}
 use Rattle.flow_points.specs.PointLists.{FlowPoints, HasCode, entries_of, places_of}
 use Rattle.flow_points.specs.declared.steps.Point.{Point}
 use Rattle.flow_points.specs.declared.steps.CodePoint.{CodePoint}
@@ -63,10 +62,12 @@ pub entry_at : (points : FlowPoints) (i : ℕ) (p : Point) → IsSomeAnd (slice_
 entry_at points i p here =
     let found = get_some (slice_get points.points i) (λ (c : CodePoint). p ≡ c.point) here in
     let below = slice_get_within points.points i found.0 found.1 in
-    let each = length-map points.points (λ (c : CodePoint). c.point.proc_entry) in
-    (omega arith, get_or-map (λ (c : CodePoint). c.point.proc_entry) points.points i found.0 0 below
-        ∙ ap (λ (c : CodePoint). c.point.proc_entry) (get_or_from_slice_get points.points i found.0 found.0 found.1)
-        ∙ ap (λ (q : Point). q.proc_entry) (sym found.2))
+    let each = length-map points.points (λ (c : CodePoint). c.point.proc_entry) in (
+      omega arith,
+      get_or-map (λ (c : CodePoint). c.point.proc_entry) points.points i found.0 0 below
+          ∙ ap (λ (c : CodePoint). c.point.proc_entry) (get_or_from_slice_get points.points i found.0 found.0 found.1)
+          ∙ ap (λ (q : Point). q.proc_entry) (sym found.2),
+    )
 
 pub entries_more : (points : FlowPoints) (i : ℕ) (p : Point) (f : ℕ → ℕ) → IsSomeAnd (slice_get points.points i) (λ c. p ≡ c.point)
     → map f (take (i + 1) (entries_of points.points)) ≡ map f (take i (entries_of points.points)) ++ f p.proc_entry ∷ []

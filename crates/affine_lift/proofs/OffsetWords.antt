@@ -10,7 +10,7 @@ use Rattle.frame_offsets.specs.Frames.{AreOffsetsOf, FrameWalk, IsOffset, offset
 use Rattle.frame_offsets.proofs.EachWalked.{has_walk}
 use Rattle.frame_offsets.proofs.Walking.{after_word}
 
-pub point_at : (points : List CodePoint) (i : ℕ) → i < length points → (c : CodePoint) × (slice_get points i ≡ Some c)
+pub point_at : {X : Type 0} (points : List X) (i : ℕ) → i < length points → (c : X) × (slice_get points i ≡ Some c)
 point_at points i below =
     elim (slice_get_cases points i).1 [
       | inl found ↦ (found.0, found.2)

@@ -23,7 +23,7 @@
 --   AreSlotWrites names assigns set    the set has the slots that are assigned
 --   WritesSlots points names c set     the set has the slots that the point c assigns
 use Rattle.std.specs.Prelude.{◌≡◌, ◌↔◌, ℕ, ◌+◌, ◌*◌, ◌==◌, Bool, true, false, ◌&&◌, IsTrue, List, [], ◌∷◌, ◌++◌, length, map, flat_map, position, unwrap_or, Contains, Option, Some, slice_get, if◌then◌else◌}
-use Rattle.map_modules.specs.Positions.{has}
+use Rattle.row_modules.specs.Positions.{has}
 use Rattle.affine_prog.specs.Programs.{edge}
 use Rattle.affine_prog.specs.Assignments.{position_of}
 use Rattle.affine_prog.specs.declared.Program.{Program}

@@ -18,13 +18,13 @@
 --   factor_of f g name             the factor of the name there; 0 for a slot
 --   is_nameable names f g t        the term's register is zero, which reads 0, or tracked, or has the factor 0
 --   row_of names f g c             the row of a sum over tracked registers
---   unit_row k                     the row that gives the word at position k
 --   IsHeldIn names value           where it is the word at a position, a name stands there
 --   assigned names i value         position i gets the value, or any word where that isn't a sum of tracked names
 use Rattle.std.specs.Prelude.{ℕ, zero, ◌+◌, ◌-◌, ◌*◌, ◌%◌, ◌^◌, ◌<◌, length, ℤ, negsuc, Bool, false, ◌||◌, ◌&&◌, List, Option, Some, None, is_some, position, slice_get, if◌then◌else◌, ◌==◌}
 use Rattle.std.specs.Option.{option_map_or}
 use Rattle.std.specs.Int.{w32, w64, cast_signed, cast_unsigned}
 use Rattle.word_rows.specs.Words.{word}
+use Rattle.word_rows.specs.Rows.{unit}
 use Rattle.map_modules.specs.Matrices.{vector}
 use Rattle.affine_prog.specs.declared.Assign.{Assign}
 use Rattle.affine_prog.specs.declared.Assign.TheVariants.{Affine, Any}
@@ -112,14 +112,11 @@ is_nameable names f g t = t.register == 0 || is_some (place_of names t.register)
 abbrev pub row_of : List Name → Term → Term → ℕ → List ℕ
 row_of names f g c = vector (λ k. if k == 16 then c else option_map_or (factor_of f g) (slice_get names k) 0)
 
-abbrev pub unit_row : ℕ → List ℕ
-unit_row k = vector (λ j. if j == k then 1 else 0)
-
 abbrev pub IsHeldIn : List Name → Value → Type 0
 IsHeldIn names (Held k) = k < length names
 IsHeldIn names value = Unit {0}
 
 abbrev pub assigned : List Name → ℕ → Value → Assign
 assigned names i (Linear f g c) = if is_nameable names f g f && is_nameable names f g g then Affine i (row_of names f g c) else Any i
-assigned names i (Held k) = Affine i (unit_row k)
+assigned names i (Held k) = Affine i (unit 17 k)
 assigned names i Unknown = Any i

@@ -1,7 +1,7 @@
 //! What instructions give to registers.
 
 ghost use Rattle.std.specs.Prelude.{◌≡◌, ◌≤◌, ◌<◌, ◌^◌, length};
-ghost use Rattle.affine_lift.specs.Values.{upper, term, multiple, constant, beside_zero, imm_value, shift_value, reg_value, link_value, is_register, place_of, factor_at, coefficient, factor_of, is_nameable, row_of, unit_row, IsHeldIn, assigned};
+ghost use Rattle.affine_lift.specs.Values.{upper, term, multiple, constant, beside_zero, imm_value, shift_value, reg_value, link_value, is_register, place_of, factor_at, coefficient, factor_of, is_nameable, row_of, IsHeldIn, assigned};
 
 use crate::value::{Term, Value};
 use affine_prog::Assign;
@@ -47,7 +47,7 @@ pub fn assigned(names: &[Name], place: usize, value: Value) -> Assign
             && is_nameable(names, first, second, second) => {
             Assign::Affine(place as u8, row_of(names, first, second, constant))
         }
-        Value::Held(position) => Assign::Affine(place as u8, unit_row(position)),
+        Value::Held(position) => Assign::Affine(place as u8, Row::zero().with(position, 1)),
         _ => Assign::Any(place as u8),
     }
 }
@@ -95,14 +95,6 @@ fn row_of(names: &[Name], first: Term, second: Term, constant: u64) -> Row<17>
         row = row.with(i, factor_of(first, second, *name));
     }
     row
-}
-
-// The row that gives the word at a position.
-fn unit_row(position: usize) -> Row<17>
-    requires { position < 16 }
-    ensures { result ≡ unit_row position }
-{
-    Row::zero().with(position, 1)
 }
 
 /// The value of an operation with an immediate.

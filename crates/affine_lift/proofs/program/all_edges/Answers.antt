@@ -1,6 +1,5 @@
-use Rattle.std.proofs.Common.{◌≡◌, ◌∙◌, ℕ, ◌+◌, List, ◌++◌, take, slice_get, flat_map, Some, ap, refl, sym}
+use Rattle.std.proofs.Common.{◌∙◌, ℕ, List, ◌++◌, take, slice_get, ap, refl, sym}
 use Rattle.affine_prog.specs.declared.Edge.{Edge}
-use Rattle.flow_points.specs.declared.steps.CodePoint.{CodePoint}
 use Rattle.frame_offsets.specs.Frames.{offset_at}
 use Rattle.frame_offsets.proofs.Walking.{get_some}
 use Rattle.affine_lift.specs.Effects.{effect_of}

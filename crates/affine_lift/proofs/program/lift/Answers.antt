@@ -1,4 +1,4 @@
-use Rattle.std.proofs.Common.{◌≡◌, ◌∙◌, ◌+◌, ◌<◌, ◌≤◌, length, map, ap, sym, arith}
+use Rattle.std.proofs.Common.{◌∙◌, ◌≤◌, length, map, ap, arith}
 use Rattle.affine_lift.specs.Lifting.{number_of, offset_from, positions_where, is_tracked_register, proc_of, edges_along}
 use Rattle.affine_lift.proofs.Formed.{lifted_formed}
 use Rattle.affine_lift.proofs.Nodes.{few_procedures, table_tells}

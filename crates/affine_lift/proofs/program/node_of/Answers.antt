@@ -1,4 +1,4 @@
-use Rattle.std.proofs.Common.{◌≡◌, ◌∙◌, ℕ, slice_get, unwrap_or, Contains, Option, None, Some, IfNone, IfSome, IsSomeAnd, ap, sym}
+use Rattle.std.proofs.Common.{◌≡◌, ◌∙◌, ℕ, slice_get, unwrap_or, Contains, Option, None, Some, IfNone, IfSome, IsSomeAnd, sym}
 use Rattle.flow_points.specs.Walks.{point}
 use Rattle.flow_points.specs.PointLists.{FlowPoints, HasCode, places_of}
 use Rattle.flow_points.specs.declared.steps.Point.{Point}

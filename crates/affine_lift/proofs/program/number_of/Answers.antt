@@ -1,4 +1,4 @@
-use Rattle.std.proofs.Common.{◌≡◌, ◌<◌, ◌≤◌, IfSome, Some, length, ap, arith}
+use Rattle.std.proofs.Common.{◌<◌, ◌≤◌, length, ap, arith}
 use Rattle.frame_offsets.proofs.Walking.{if_some}
 use Rattle.affine_lift.proofs.Nodes.{few_procedures}
 use Rattle.affine_lift.proofs.program.number_of.Goals as goal

@@ -1,4 +1,4 @@
-use Rattle.std.proofs.Common.{◌≡◌, ◌∙◌, ℕ, List, ◌++◌, [], ◌∷◌, map, take, ap, sym}
+use Rattle.std.proofs.Common.{◌∙◌, ℕ, List, ◌++◌, [], ◌∷◌, map, take, ap, sym}
 use Rattle.flow_points.specs.PointLists.{entries_of}
 use Rattle.affine_lift.specs.Lifting.{number_of}
 use Rattle.affine_lift.proofs.Nodes.{entries_more}
