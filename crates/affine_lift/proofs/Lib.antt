@@ -8,3 +8,6 @@ mod Formed
 mod PositionBits
 mod EffectsSeen
 mod Procedures
+mod Numerals
+mod NamesRead
+mod ItemsNamed

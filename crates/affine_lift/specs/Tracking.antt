@@ -1,27 +1,32 @@
 -- Track lists, as text: names between commas. A name is a register, or a frame slot `P:-N`, the word N bytes below the
 -- stack pointer at the entry of the procedure at the address P.
 --
+--   is_comma c, is_colon c              the byte is a comma, a colon
 --   items_of text                       the parts of the text between its commas
 --   texts_of items                      the bytes of each item
 --   IsAddress text p                    the text is `0x` and 1 to 16 hexadecimal digits of either case, the numeral of p
 --   IsDistance text n                   the text is `-` and the numeral of n in decimal, without leading zeros
---   IsSlotText item p rest              the item is an address, that of p, a colon and the rest
+--   IsSlotText item p rest              before the item's first colon stands the address p, and behind it the rest
 --   Names item name                     the item names this register, or this slot
---   HasName item                        it names some register but zero, or begins with an address and a colon
+--   HasName item                        it names some register but zero, or an address stands before its first colon
 --   IsIn procedures name                where the name is a slot, its procedure is one of these
 --   AreNames procedures items names     each item names the name at its place, which is in the procedures, and none comes
 --                                       twice
 --   IsTracked procedures text names     the text is a list of 1 to 16 items, which are these names
---   StandsBehind procedures items front names item
---                                       the items of the front are names, and the item is the next one
+--   Breaks procedures names item place refusal
+--                                       the item at this place, behind items with these names, breaks a rule: the first one
+--                                       that it breaks
 --   IsItemRefusal procedures items refusal
---                                       the first item that is no further name, by its place, counted from 1, and the first
---                                       rule that it breaks
+--                                       the first item that is no further name breaks a rule; places are counted from 1
+--   IsFurther procedures names item name
+--                                       the item is a further name, behind items with these names
+--   IsNamesRefusal procedures items refusal
+--                                       an item breaks a rule, or memory is wanting
 --   IsTrackRefusal procedures text refusal
 --                                       the first cause for which the text is no such list; want of memory is free
-use Rattle.std.specs.Prelude.{◌≡◌, ◌≢◌, ℕ, ◌+◌, ◌<◌, ◌≤◌, ◌==◌, List, [], ◌∷◌, ◌++◌, length, map, All, AllPairs, Contains, Some, slice_index}
+use Rattle.std.specs.Prelude.{◌≡◌, ◌≢◌, ℕ, Bool, ◌+◌, ◌<◌, ◌≤◌, ◌==◌, List, [], ◌∷◌, ◌++◌, length, map, All, AllPairs, Contains, Some, slice_index}
 use denote.Ref.{Bor}
-use Rattle.std.specs.List.{slice_split, AllZip}
+use Rattle.std.specs.List.{after_first, before_first, slice_split, AllZip}
 use Rattle.std.specs.Str.Parse.{IsNumeral, digits_value}
 use Rattle.rv_decode.specs.Registers.{register_of}
 use Rattle.report_text.specs.Names.{IsAllowedBelow}
@@ -30,8 +35,11 @@ use Rattle.report_text.specs.declared.names.Name.TheVariants.{Register, Slot}
 use Rattle.affine_lift.specs.declared.refusal.TrackRefusal.{TrackRefusal}
 use Rattle.affine_lift.specs.declared.refusal.TrackRefusal.TheVariants.{Empty, TooMany, UnknownName, BadSlot, NoSuchProcedure, Repeated, Memory}
 
+abbrev pub is_comma : ℕ → Bool
+is_comma c = c == 44
+
 abbrev pub items_of : List ℕ → List (List ℕ)
-items_of text = slice_split (λ c. c == 44) text
+items_of text = slice_split is_comma text
 
 abbrev pub texts_of : List (Bor (List ℕ)) → List (List ℕ)
 texts_of items = map (λ item. item.now) items
@@ -50,10 +58,13 @@ pub record IsDistance (text : List ℕ) (n : ℕ) : Type 0 where
   pub no_zeros : slice_index digits 0 ≢ 48
   pub value : n ≡ digits_value 10 digits
 
+abbrev pub is_colon : ℕ → Bool
+is_colon c = c == 58
+
 pub record IsSlotText (item : List ℕ) (p : ℕ) (rest : List ℕ) : Type 0 where
-  pub before : List ℕ
-  pub address : IsAddress before p
-  pub item_is : item ≡ before ++ 58 ∷ rest
+  pub colon : Contains item 58
+  pub address : IsAddress (before_first is_colon item) p
+  pub rest_is : rest ≡ after_first is_colon item
 
 pub data Names (item : List ℕ) (name : Name) : Type 0 where
   register : (r : ℕ) → register_of item ≡ Some r → r ≢ 0 → name ≡ Register r → Names item name
@@ -78,23 +89,31 @@ pub record IsTracked (procedures text : List ℕ) (names : List Name) : Type 0 w
   pub few : length (items_of text) ≤ 16
   pub names_are : AreNames procedures (items_of text) names
 
-pub record StandsBehind (procedures : List ℕ) (items front : List (List ℕ)) (names : List Name) (item : List ℕ) : Type 0 where
+pub data Breaks (procedures : List ℕ) (names : List Name) (item : List ℕ) (place : ℕ) (refusal : TrackRefusal) : Type 0 where
+  unknown_name : (HasName item → ⊥) → refusal ≡ UnknownName place → Breaks procedures names item place refusal
+  bad_slot : HasName item → ((name : Name) → Names item name → ⊥) → refusal ≡ BadSlot place → Breaks procedures names item place refusal
+  no_such_procedure : (name : Name) → Names item name → (IsIn procedures name → ⊥) → refusal ≡ NoSuchProcedure place
+      → Breaks procedures names item place refusal
+  repeated : (name : Name) → Names item name → IsIn procedures name → Contains names name → refusal ≡ Repeated place
+      → Breaks procedures names item place refusal
+
+pub record IsItemRefusal (procedures : List ℕ) (items : List (List ℕ)) (refusal : TrackRefusal) : Type 0 where
+  pub front : List (List ℕ)
+  pub names : List Name
+  pub item : List ℕ
   pub rest : List (List ℕ)
   pub split : items ≡ front ++ item ∷ rest
   pub names_are : AreNames procedures front names
+  pub breaks : Breaks procedures names item (length front + 1) refusal
 
-pub data IsItemRefusal (procedures : List ℕ) (items : List (List ℕ)) (refusal : TrackRefusal) : Type 0 where
-  unknown_name : (front : List (List ℕ)) (names : List Name) (item : List ℕ) → StandsBehind procedures items front names item
-      → (HasName item → ⊥) → refusal ≡ UnknownName (length front + 1) → IsItemRefusal procedures items refusal
-  bad_slot : (front : List (List ℕ)) (names : List Name) (item : List ℕ) → StandsBehind procedures items front names item
-      → HasName item → ((name : Name) → Names item name → ⊥) → refusal ≡ BadSlot (length front + 1)
-      → IsItemRefusal procedures items refusal
-  no_such_procedure : (front : List (List ℕ)) (names : List Name) (item : List ℕ) (name : Name)
-      → StandsBehind procedures items front names item → Names item name → (IsIn procedures name → ⊥)
-      → refusal ≡ NoSuchProcedure (length front + 1) → IsItemRefusal procedures items refusal
-  repeated : (front : List (List ℕ)) (names : List Name) (item : List ℕ) (name : Name)
-      → StandsBehind procedures items front names item → Names item name → IsIn procedures name → Contains names name
-      → refusal ≡ Repeated (length front + 1) → IsItemRefusal procedures items refusal
+pub record IsFurther (procedures : List ℕ) (names : List Name) (item : List ℕ) (name : Name) : Type 0 where
+  pub named : Names item name
+  pub within : IsIn procedures name
+  pub other : Contains names name → ⊥
+
+pub data IsNamesRefusal (procedures : List ℕ) (items : List (List ℕ)) (refusal : TrackRefusal) : Type 0 where
+  item : IsItemRefusal procedures items refusal → IsNamesRefusal procedures items refusal
+  no_memory : refusal ≡ Memory → IsNamesRefusal procedures items refusal
 
 pub data IsTrackRefusal (procedures text : List ℕ) (refusal : TrackRefusal) : Type 0 where
   empty : text ≡ [] → refusal ≡ Empty → IsTrackRefusal procedures text refusal

@@ -1,16 +1,215 @@
 //! Track lists.
 
-ghost use Rattle.std.specs.Prelude.{◌≡◌, MatchResult};
-ghost use Rattle.affine_lift.specs.Tracking.{IsTracked, IsTrackRefusal};
+ghost use Rattle.std.specs.Prelude.{◌≡◌, ◌≢◌, ◌==◌, ◌↔◌, ℕ, ◌+◌, ◌<◌, ◌≤◌, ◌^◌, List, ◌∷◌, length, slice_index, All, Contains, IsTrue, IfOk, IfErr, IfSome, Some, MatchOption, MatchResult};
+ghost use Rattle.std.specs.Option.{SomeIff};
+ghost use Rattle.std.specs.List.{after_first, before_first};
+ghost use Rattle.std.specs.Str.Parse.{IsNumeral, digits_value};
+ghost use Rattle.rv_decode.specs.Registers.{register_of};
+ghost use Rattle.report_text.specs.Names.{IsAllowedBelow, IsName};
+ghost use Rattle.report_text.specs.declared.names.Name.{Name};
+ghost use Rattle.affine_lift.specs.Tracking.{is_colon, items_of, texts_of, AreNames, Breaks, HasName, IsAddress, IsDistance, IsFurther, IsIn, IsNamesRefusal, IsSlotText, IsTracked, IsTrackRefusal, Names};
 
 use crate::refusal::TrackRefusal;
 use flow_points::Points;
-use report_text::Tracked;
-use std::alloc::Global;
+use report_text::{Name, Tracked};
+use rv_decode::read_register;
+use sqlite_items::Items;
+use std::alloc::{AllocError, Global};
 
 /// The names of a list, in order, or the first cause for which the text is no list.
 pub fn read_tracked(alloc: Global, text: &str, points: &Points) -> Result<Tracked, TrackRefusal>
     ensures { MatchResult result (λ tracked. IsTracked points.now.procedures text.now tracked.names) (IsTrackRefusal points.now.procedures text.now) }
 {
-    Err(TrackRefusal::Memory)
+    if text.is_empty() {
+        return Err(TrackRefusal::Empty);
+    }
+    let items = items_between_commas(alloc, text)?;
+    if items.len() > 16 {
+        return Err(TrackRefusal::TooMany(16));
+    }
+    let names = names_of(alloc, &items, points.procedures())?;
+    Ok(Tracked { names })
+}
+
+fn items_between_commas(alloc: Global, list: &str) -> Result<Vec<&str>, AllocError>
+    ensures { IfOk result (λ items. texts_of items.items ≡ items_of list.now) }
+{
+    list.split(',').collect(alloc)
+}
+
+// The names of the items, or the first item that is no further name.
+fn names_of(alloc: Global, items: &[&str], procedures: &[u64]) -> Result<Items<Name>, TrackRefusal>
+    requires { length items.now ≤ 16 }
+    ensures names { MatchResult result (AreNames procedures.now (texts_of items.now)) (IsNamesRefusal procedures.now (texts_of items.now)) }
+    ensures allowed { IfOk result (All IsName) }
+{
+    let mut names = Items::new(alloc);
+    for (i, item) in items.iter().enumerate() {
+        match further_name(item, i as u64 + 1, procedures, names.as_slice()) {
+            Ok(name) => names.push(name)?,
+            Err(refusal) => return Err(refusal),
+        }
+    }
+    Ok(names)
+}
+
+// The name of the item at this place, which is to be in the procedures and none of the names before it.
+fn further_name(
+    item: &str,
+    place: u64,
+    procedures: &[u64],
+    names: &[Name],
+) -> Result<Name, TrackRefusal>
+    ensures name { MatchResult result (IsFurther procedures.now names.now item.now) (Breaks procedures.now names.now item.now place) }
+    ensures allowed { IfOk result IsName }
+{
+    let name = match name_of(item, place) {
+        Ok(name) => name,
+        Err(refusal) => return Err(refusal),
+    };
+    if !is_in(procedures, name) {
+        return Err(TrackRefusal::NoSuchProcedure(place));
+    }
+    if is_listed(names, name) {
+        return Err(TrackRefusal::Repeated(place));
+    }
+    Ok(name)
+}
+
+fn is_in(procedures: &[u64], name: Name) -> bool
+    ensures { IsTrue result ↔ IsIn procedures.now name }
+{
+    match name {
+        Name::Register(_) => true,
+        Name::Slot { proc_entry, .. } => procedures.contains(&proc_entry),
+    }
+}
+
+fn is_listed(names: &[Name], name: Name) -> bool
+    ensures { IsTrue result ↔ Contains names.now name }
+{
+    names.contains(&name)
+}
+
+// The name that the item at this place is.
+fn name_of(item: &str, place: u64) -> Result<Name, TrackRefusal>
+    ensures named { IfOk result (Names item.now) }
+    ensures allowed { IfOk result IsName }
+    ensures refused { IfErr result (λ refusal. (procedures : List ℕ) (names : List Name) → Breaks procedures names item.now place refusal) }
+{
+    if let Some(register) = register_named(item) {
+        return Ok(Name::Register(register));
+    }
+    let Some((proc_entry, rest)) = slot_text(item) else {
+        return Err(TrackRefusal::UnknownName(place));
+    };
+    match distance_of(rest) {
+        Some(below) => Ok(Name::Slot { proc_entry, below }),
+        None => Err(TrackRefusal::BadSlot(place)),
+    }
+}
+
+fn register_named(item: &str) -> Option<u8>
+    ensures register { MatchOption result ((r : ℕ) → register_of item.now ≡ Some r → r ≢ 0 → ⊥) (λ r. register_of item.now ≡ Some r) }
+    ensures allowed { IfSome result (λ r. (1 ≤ r) × (r < 32)) }
+{
+    match read_register(item) {
+        Some(register) if register != 0 => Some(register),
+        _ => None,
+    }
+}
+
+// The address before the first colon of an item, and what stands behind that.
+fn slot_text(item: &str) -> Option<(u64, &str)>
+    ensures { MatchOption result ((p : ℕ) (rest : List ℕ) → IsSlotText item.now p rest → ⊥) (λ s. IsSlotText item.now s.0 s.1.now) }
+{
+    let Some((before, rest)) = parts(item) else {
+        return None;
+    };
+    match address_of(before) {
+        Some(proc_entry) => Some((proc_entry, rest)),
+        None => None,
+    }
+}
+
+// What stands before and behind the first colon.
+fn parts(item: &str) -> Option<(&str, &str)>
+    ensures { MatchOption result (Contains item.now 58 → ⊥) (λ s. Contains item.now 58
+        × (s.0.now ≡ before_first is_colon item.now) × (s.1.now ≡ after_first is_colon item.now)) }
+{
+    item.split_once(':')
+}
+
+// The address that a text is, as `0x` and hexadecimal digits.
+fn address_of(text: &str) -> Option<u64>
+    ensures { MatchOption result ((p : ℕ) → IsAddress text.now p → ⊥) (λ p. IsAddress text.now p) }
+{
+    let Some(digits) = digits_behind(text) else {
+        return None;
+    };
+    if digits.len() > 16 {
+        return None;
+    }
+    number_of(digits, 16)
+}
+
+// What stands behind `0x`.
+fn digits_behind(text: &str) -> Option<&str>
+    ensures { MatchOption result ((rest : List ℕ) → text.now ≢ 48 ∷ 120 ∷ rest) (λ rest. text.now ≡ 48 ∷ 120 ∷ rest.now) }
+{
+    match behind(text, '0') {
+        Some(rest) => behind(rest, 'x'),
+        None => None,
+    }
+}
+
+// What stands behind the first character, if it is this one.
+fn behind(text: &str, first: char) -> Option<&str>
+    requires { first < 128 }
+    ensures { MatchOption result ((rest : List ℕ) → text.now ≢ first ∷ rest) (λ rest. text.now ≡ first ∷ rest.now) }
+{
+    text.strip_prefix(first)
+}
+
+// The distance of a slot that a text is, as `-` and decimal digits.
+fn distance_of(text: &str) -> Option<u16>
+    ensures { MatchOption result ((n : ℕ) → IsDistance text.now n → IsAllowedBelow n → ⊥) (λ n. IsDistance text.now n × IsAllowedBelow n) }
+{
+    let Some(digits) = behind(text, '-') else {
+        return None;
+    };
+    if begins_with(digits, b'0') {
+        return None;
+    }
+    let below = number_of(digits, 10)?;
+    if (8..=2048).contains(&below) && below % 8 == 0 {
+        Some(below as u16)
+    } else {
+        None
+    }
+}
+
+// The number of a numeral without a sign.
+fn number_of(digits: &str, radix: u32) -> Option<u64>
+    requires least { 2 ≤ radix }
+    requires most { radix ≤ 36 }
+    ensures { SomeIff result (IsNumeral radix digits.now × (digits_value radix digits.now < 2 ^ 64)) (digits_value radix digits.now) }
+{
+    if begins_with(digits, b'+') {
+        return None;
+    }
+    match u64::from_str_radix(digits, radix) {
+        Ok(number) => Some(number),
+        Err(_) => None,
+    }
+}
+
+fn begins_with(text: &str, byte: u8) -> bool
+    requires { byte ≢ 0 }
+    ensures { result ≡ (slice_index text.now 0 == byte) }
+{
+    match text.as_bytes() {
+        [first, ..] => *first == byte,
+        [] => false,
+    }
 }

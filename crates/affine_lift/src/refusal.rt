@@ -1,5 +1,9 @@
 //! Why a track list is refused.
 
+ghost use Rattle.std.specs.Prelude.{◌≡◌};
+ghost use Rattle.affine_lift.specs.declared.refusal.TrackRefusal.TheVariants.{Memory};
+
+use std::alloc::AllocError;
 use thiserror::Error;
 
 /// Why a text is no list of tracked names. A place is counted from 1, and is that of the first item that breaks a rule.
@@ -26,4 +30,12 @@ pub enum TrackRefusal {
     /// Want of memory.
     #[error("out of memory")]
     Memory,
+}
+
+impl From<AllocError> for TrackRefusal {
+    ghost from_gives = { λ _ e. e ≡ Memory };
+
+    fn from(_error: AllocError) -> TrackRefusal {
+        TrackRefusal::Memory
+    }
 }
