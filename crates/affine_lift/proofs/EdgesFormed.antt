@@ -9,10 +9,10 @@ use Rattle.affine_prog.specs.declared.Kind.{Kind}
 use Rattle.affine_prog.specs.declared.Kind.TheVariants.{Do, Call as CallEdge}
 use Rattle.flow_points.specs.Walks.{point, successors_of}
 use Rattle.flow_points.specs.PointLists.{FlowPoints, HasCode, places_of}
-use Rattle.flow_points.specs.declared.steps.Point.{Point}
-use Rattle.flow_points.specs.declared.steps.Flow.{Flow}
-use Rattle.flow_points.specs.declared.steps.Flow.TheVariants.{Next, Jump, Branch, Call, Return, Halt}
-use Rattle.flow_points.specs.declared.steps.CodePoint.{CodePoint}
+use Rattle.flow_points.specs.declared.code_points.Point.{Point}
+use Rattle.flow_points.specs.declared.code_points.Flow.{Flow}
+use Rattle.flow_points.specs.declared.code_points.Flow.TheVariants.{Next, Jump, Branch, Call, Return, Halt}
+use Rattle.flow_points.specs.declared.code_points.CodePoint.{CodePoint}
 use Rattle.flow_points.proofs.Lists.{Contains-map, all_one, all_two, alone, first, second}
 use Rattle.flow_points.proofs.PointLaws.{goes_on}
 use Rattle.report_text.specs.declared.names.Name.{Name}

@@ -12,7 +12,7 @@ use Rattle.map_modules.proofs.Entries.{get_or-vector, IsRow-vector}
 use Rattle.affine_prog.specs.Programs.{IsAssignIn}
 use Rattle.affine_prog.specs.declared.Assign.{Assign}
 use Rattle.affine_prog.specs.declared.Assign.TheVariants.{Affine, Any}
-use Rattle.flow_points.specs.declared.steps.CodePoint.{CodePoint}
+use Rattle.flow_points.specs.declared.code_points.CodePoint.{CodePoint}
 use Rattle.rv_decode.specs.declared.instructions.Instr.{Instr}
 use Rattle.rv_decode.specs.declared.instructions.Instr.TheVariants.{Lui, Auipc, Jal, Jalr, Branch, Load, Store, Imm, Shift, Reg, Fence, Ecall, Ebreak}
 use Rattle.rv_decode.specs.declared.instructions.LoadOp.{LoadOp}
@@ -23,8 +23,8 @@ use Rattle.rv_decode.specs.declared.instructions.ShiftOp.{ShiftOp}
 use Rattle.rv_decode.specs.declared.instructions.ShiftOp.TheVariants.{Slli}
 use Rattle.rv_decode.specs.declared.instructions.RegOp.{RegOp}
 use Rattle.rv_decode.specs.declared.instructions.RegOp.TheVariants.{Add, Sub, Or, Xor, And, Mul}
-use Rattle.flow_points.specs.declared.steps.Flow.{Flow}
-use Rattle.flow_points.specs.declared.steps.Flow.TheVariants.{Call}
+use Rattle.flow_points.specs.declared.code_points.Flow.{Flow}
+use Rattle.flow_points.specs.declared.code_points.Flow.TheVariants.{Call}
 use Rattle.report_text.specs.declared.names.Name.{Name}
 use Rattle.report_text.specs.declared.names.Name.TheVariants.{Register, Slot}
 use Rattle.report_text.specs.Names.{IsSeenIn}

@@ -13,9 +13,9 @@ use Rattle.affine_prog.specs.declared.Proc.{Proc}
 use Rattle.affine_prog.specs.declared.Assign.{Assign}
 use Rattle.flow_points.specs.Walks.{point, start}
 use Rattle.flow_points.specs.PointLists.{FlowPoints, HasCode, entries_of}
-use Rattle.flow_points.specs.declared.steps.Flow.{Flow}
-use Rattle.flow_points.specs.declared.steps.Flow.TheVariants.{Next, Jump, Branch, Call, Return, Halt}
-use Rattle.flow_points.specs.declared.steps.CodePoint.{CodePoint}
+use Rattle.flow_points.specs.declared.code_points.Flow.{Flow}
+use Rattle.flow_points.specs.declared.code_points.Flow.TheVariants.{Next, Jump, Branch, Call, Return, Halt}
+use Rattle.flow_points.specs.declared.code_points.CodePoint.{CodePoint}
 use Rattle.flow_points.proofs.Lists.{item_there}
 use Rattle.flow_points.proofs.PointLaws.{all_procedures, ascending, begins}
 use Rattle.report_text.specs.declared.names.Name.{Name}

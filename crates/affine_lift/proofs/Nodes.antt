@@ -4,8 +4,8 @@ use Rattle.std.specs.List.{dedup, dedup_from}
 use Rattle.std.proofs.lemmas.List.{get_or-map, length-map, map_push, take_more}
 use Rattle.std.proofs.lemmas.Option.{get_or_from_slice_get, slice_get_read, slice_get_within}
 use Rattle.flow_points.specs.PointLists.{FlowPoints, HasCode, entries_of, places_of}
-use Rattle.flow_points.specs.declared.steps.Point.{Point}
-use Rattle.flow_points.specs.declared.steps.CodePoint.{CodePoint}
+use Rattle.flow_points.specs.declared.code_points.Point.{Point}
+use Rattle.flow_points.specs.declared.code_points.CodePoint.{CodePoint}
 use Rattle.flow_points.proofs.Lists.{Contains-map, item_there}
 use Rattle.flow_points.proofs.SamePoint.{itself, same}
 use Rattle.std.proofs.lemmas.Grind.{flat_map-append}

@@ -4,7 +4,7 @@ use Rattle.std.specs.Int.{cast_signed, cast_unsigned, w64}
 use Rattle.std.proofs.lemmas.Int.{of_z-to_z}
 use Rattle.std.proofs.lemmas.Option.{slice_get_cases}
 use Rattle.flow_points.specs.PointLists.{FlowPoints, HasCode}
-use Rattle.flow_points.specs.declared.steps.CodePoint.{CodePoint}
+use Rattle.flow_points.specs.declared.code_points.CodePoint.{CodePoint}
 use Rattle.flow_points.proofs.Lists.{item_there}
 use Rattle.frame_offsets.specs.Frames.{AreOffsetsOf, FrameWalk, IsOffset, offset_at}
 use Rattle.frame_offsets.proofs.EachWalked.{has_walk}

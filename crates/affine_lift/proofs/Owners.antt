@@ -6,8 +6,8 @@ use Rattle.affine_prog.specs.Programs.{owner_of}
 use Rattle.affine_prog.specs.declared.Program.{Program}
 use Rattle.affine_prog.specs.declared.Proc.{Proc}
 use Rattle.flow_points.specs.PointLists.{FlowPoints, HasCode, entries_of, places_of}
-use Rattle.flow_points.specs.declared.steps.Point.{Point}
-use Rattle.flow_points.specs.declared.steps.CodePoint.{CodePoint}
+use Rattle.flow_points.specs.declared.code_points.Point.{Point}
+use Rattle.flow_points.specs.declared.code_points.CodePoint.{CodePoint}
 use Rattle.report_text.specs.declared.names.Name.{Name}
 use Rattle.affine_lift.specs.Lifting.{IsLifted, exit_of, node_of, number_of, proc_of}
 use Rattle.affine_lift.proofs.Procedures.{code_there, stands}

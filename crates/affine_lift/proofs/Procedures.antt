@@ -5,9 +5,9 @@ use Rattle.std.proofs.lemmas.List.Kept.{AllPairs-from_increasing}
 use Rattle.std.proofs.lemmas.Option.{get_or_from_slice_get, slice_get_within}
 use Rattle.flow_points.specs.Walks.{point}
 use Rattle.flow_points.specs.PointLists.{FlowPoints, HasCode, entries_of, places_of}
-use Rattle.flow_points.specs.declared.steps.Point.{Point}
-use Rattle.flow_points.specs.declared.steps.CodePoint.{CodePoint}
-use Rattle.flow_points.proofs.Jumps.{from_map}
+use Rattle.flow_points.specs.declared.code_points.Point.{Point}
+use Rattle.flow_points.specs.declared.code_points.CodePoint.{CodePoint}
+use Rattle.flow_points.proofs.Cited.{from_map}
 use Rattle.flow_points.proofs.Lists.{Contains-map}
 use Rattle.flow_points.proofs.PointLaws.{all_procedures, ascending, only_procedures}
 use Rattle.frame_offsets.specs.Frames.{FrameWalk, begin, onward}

@@ -12,7 +12,7 @@ use Rattle.std.specs.Prelude.{◌≡◌, ℕ, ◌+◌, ◌<◌, List, [], ◌∷
 use Rattle.std.specs.Option.{option_map_or}
 use Rattle.word_rows.specs.Words.{word}
 use Rattle.affine_prog.specs.declared.Assign.{Assign}
-use Rattle.flow_points.specs.declared.steps.CodePoint.{CodePoint}
+use Rattle.flow_points.specs.declared.code_points.CodePoint.{CodePoint}
 use Rattle.frame_offsets.specs.Frames.{IsOffset}
 use Rattle.report_text.specs.declared.names.Name.{Name}
 use Rattle.rv_decode.specs.declared.instructions.Instr.{Instr}

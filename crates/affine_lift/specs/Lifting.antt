@@ -33,10 +33,10 @@ use Rattle.affine_prog.specs.declared.Kind.TheVariants.{Do, Call as CallEdge}
 use Rattle.affine_prog.specs.declared.Assign.{Assign}
 use Rattle.flow_points.specs.Walks.{point, successors_of}
 use Rattle.flow_points.specs.PointLists.{FlowPoints, entries_of}
-use Rattle.flow_points.specs.declared.steps.Point.{Point}
-use Rattle.flow_points.specs.declared.steps.CodePoint.{CodePoint}
-use Rattle.flow_points.specs.declared.steps.Flow.{Flow}
-use Rattle.flow_points.specs.declared.steps.Flow.TheVariants.{Call, Return}
+use Rattle.flow_points.specs.declared.code_points.Point.{Point}
+use Rattle.flow_points.specs.declared.code_points.CodePoint.{CodePoint}
+use Rattle.flow_points.specs.declared.code_points.Flow.{Flow}
+use Rattle.flow_points.specs.declared.code_points.Flow.TheVariants.{Call, Return}
 use Rattle.frame_offsets.specs.Frames.{offset_at}
 use Rattle.report_text.specs.declared.names.Name.{Name}
 use Rattle.report_text.specs.declared.names.Name.TheVariants.{Register, Slot}

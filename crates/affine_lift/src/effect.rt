@@ -49,12 +49,7 @@ pub fn code_at(points: &Points, i: u32) -> CodePoint
     ensures instr { IsWellFormed result.instr }
 {
     points.known();
-    CodePoint {
-        point: points.point(i),
-        word: points.word(i),
-        instr: points.instr(i),
-        flow: points.flow(i),
-    }
+    points.code(i)
 }
 
 /// The offset of the first byte that a load or a store goes to, where its base register has one.

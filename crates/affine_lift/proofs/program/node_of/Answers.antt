@@ -1,8 +1,8 @@
 use Rattle.std.proofs.Common.{◌≡◌, ◌∙◌, ℕ, slice_get, unwrap_or, Contains, Option, None, Some, IfNone, IfSome, IsSomeAnd, sym}
 use Rattle.flow_points.specs.Walks.{point}
 use Rattle.flow_points.specs.PointLists.{FlowPoints, HasCode, places_of}
-use Rattle.flow_points.specs.declared.steps.Point.{Point}
-use Rattle.flow_points.specs.declared.steps.CodePoint.{CodePoint}
+use Rattle.flow_points.specs.declared.code_points.Point.{Point}
+use Rattle.flow_points.specs.declared.code_points.CodePoint.{CodePoint}
 use Rattle.frame_offsets.proofs.Walking.{get_some}
 use Rattle.affine_lift.specs.Lifting.{node_of}
 use Rattle.affine_lift.proofs.Nodes.{node_is, no_node}
