@@ -1,5 +1,5 @@
 -- The edges of a lifted program.
-use Rattle.std.proofs.Common.{◌≡◌, ◌∙◌, ℕ, suc, ◌<◌, ◌≤◌, List, [], ◌∷◌, length, get_or, flat_map, All, Contains, refl, sym, subst, arith}
+use Rattle.std.proofs.Common.{◌≡◌, ◌∙◌, ℕ, suc, ◌<◌, List, [], ◌∷◌, get_or, flat_map, All, Contains, refl, sym, subst, arith}
 use Rattle.std.proofs.lemmas.Bool.{eq-eqb}
 use Rattle.std.proofs.lemmas.List.Elements.{All-append, All-contains_itself, All-nil}
 use Rattle.row_modules.proofs.Laws.{has_left, has_right}
@@ -30,12 +30,12 @@ all_flat_map P f [] all = All-nil P
 all_flat_map P f (x ∷ xs) all =
     All-append P (f x) (flat_map f xs) (all 0 x (omega arith)) (all_flat_map P f xs (λ k d below. all (suc k) d (omega arith)))
 
-module _ (points : FlowPoints) (names : List Name) (program : Program) (has_code : HasCode points) (few : length names ≤ 16)
+module _ (points : FlowPoints) (names : List Name) (program : Program) (has_code : HasCode points)
     (is : IsLifted points names program) where
   pub slots_at : (a : ℕ) → Contains points.procedures a → slots_of program (number_of points a) ≡ positions_where (is_slot_of a) names
   slots_at a there = proc_at points names program has_code is (λ proc. proc.slots) a there
 
-  visible_sees : (a : ℕ) → Contains points.procedures a → Sees (visible_in program (number_of points a)) a names
+  pub visible_sees : (a : ℕ) → Contains points.procedures a → Sees (visible_in program (number_of points a)) a names
   visible_sees a there k (Register r) at seen =
       has_left program.registers _ k (rw is.registers (has_name is_tracked_register names k (Register r) at refl))
   visible_sees a there k (Slot q n) at seen =

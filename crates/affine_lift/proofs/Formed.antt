@@ -54,8 +54,8 @@ module _ (points : FlowPoints) (names : List Name) (program : Program) (has_code
       let exit = proc_at points names program has_code is (λ proc. proc.exit) a there in
       let at = entry_there points has_code a there in
       record {
-        entry = subst (λ (n : ℕ). n < program.nodes) (sym entry) (point_small points names program has_code few is (point a a) at);
-        exit = subst (λ (n : ℕ). n < program.nodes) (sym exit) (exit_small points names program has_code few is a there);
+        entry = subst (λ (n : ℕ). n < program.nodes) (sym entry) (point_small points names program has_code is (point a a) at);
+        exit = subst (λ (n : ℕ). n < program.nodes) (sym exit) (exit_small points names program has_code is a there);
         entry_owner = ap (owner_of program) entry ∙ point_owner points names program has_code is (point a a) at;
         exit_owner = ap (owner_of program) exit ∙ exit_owner points names program has_code is a there;
       }
@@ -135,5 +135,5 @@ module _ (points : FlowPoints) (names : List Name) (program : Program) (has_code
         (number_small points names program has_code is points.entry (owner_there points has_code (start points.entry) (begins points has_code)));
     procs = each_ends;
     few_edges = few_edges;
-    edges = edges_formed points names program has_code few is;
+    edges = edges_formed points names program has_code is;
   }

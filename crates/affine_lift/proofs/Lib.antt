@@ -11,3 +11,7 @@ mod Procedures
 mod Numerals
 mod NamesRead
 mod ItemsNamed
+mod StoresWrite
+mod SlotsWritten
+mod VisibleSeen
+mod OneProgram

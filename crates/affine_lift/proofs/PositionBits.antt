@@ -1,8 +1,9 @@
 -- The positions in a set of names.
-use Rattle.std.proofs.Common.{◌≡◌, ◌∙◌, ℕ, zero, suc, ◌+◌, ◌*◌, ◌/◌, ◌%◌, ◌<◌, ◌==◌, Bool, true, false, cond, List, [], ◌∷◌, slice_get, Option, None, Some, IsTrue, bit_and, min, inl, inr, refl, sym, ap, arith}
+use Rattle.std.proofs.Common.{◌≡◌, ◌∙◌, ℕ, zero, suc, ◌+◌, ◌*◌, ◌/◌, ◌%◌, ◌<◌, ◌==◌, Bool, true, false, cond, List, [], ◌∷◌, slice_get, Option, None, Some, IsTrue, bit_and, bit_or, min, ◌⊎◌, inl, inr, refl, sym, ap, arith}
 use Rattle.std.specs.Int.{bit_at}
 use Rattle.std.specs.Option.{option_map_or}
-use Rattle.std.proofs.lemmas.Nat.Bits.{bit_at_and, bit_at-lt, bit_at_lowest, bit_at-suc, bit_at-zero, same_from_bits}
+use Rattle.std.proofs.lemmas.Nat.Bits.{bit_at_and, bit_at_or, bit_at-lt, bit_at_lowest, bit_at-suc, bit_at-zero, same_from_bits}
+use Rattle.std.proofs.lemmas.Bool.{eqb-true}
 use Rattle.row_modules.specs.Positions.{has}
 use Rattle.row_modules.proofs.Laws.{in_or_out}
 use Rattle.report_text.specs.declared.names.Name.{Name}
@@ -58,3 +59,17 @@ positions_apart p q names apart =
     clash : (o : Option Name) → option_map_or p o false ≡ true → option_map_or q o false ≡ true → ⊥
     clash None s t = cc
     clash (Some name) s t = apart name s t
+
+pub in_either : (a b i : ℕ) → IsTrue (has (bit_or a b) i) → IsTrue (has a i) ⊎ IsTrue (has b i)
+in_either a b i t =
+    elim (in_or_out a i) [
+      | inl s ↦ inl s
+      | inr f ↦ elim (in_or_out b i) [
+        | inl s ↦ inr s
+        | inr g ↦
+            let one = eqb-true (bit_at (bit_or a b) i) 1 t in
+            let none = bit_zero (bit_at a i) (bit_at-lt a i) f in
+            let neither = bit_zero (bit_at b i) (bit_at-lt b i) g in
+            absurd (let most = bit_at_or a b i in omega arith)
+      ]
+    ]

@@ -13,6 +13,7 @@
 --   store_of instr access          the store of an instruction, where its offset is known
 --   stored_word names s k n        what a store gives to the slot n bytes below at position k: SD of exactly the slot the
 --                                  register, any other any word
+--   is_touched p s name            the name is a slot of p that the store touches
 --   stored names p s item          the assignment that a store makes to a name with its position, if that is a slot of p
 --                                  which it touches
 --   stores_of names p s            all of them, in the order of the positions
@@ -78,9 +79,13 @@ is_whole op = false
 abbrev pub stored_word : List Name → FrameStore → ℕ → ℕ → Assign
 stored_word names s k n = if is_whole s.op && s.offset == slot_offset n then assigned names k (multiple 1 s.register) else Any k
 
+abbrev pub is_touched : ℕ → FrameStore → Name → Bool
+is_touched p s (Register r) = false
+is_touched p s (Slot q n) = q == p && touches (width_of s.op) s.offset n
+
 abbrev pub stored_in : List Name → ℕ → FrameStore → ℕ → Name → Option Assign
 stored_in names p s k (Register r) = None
-stored_in names p s k (Slot q n) = if q == p && touches (width_of s.op) s.offset n then Some (stored_word names s k n) else None
+stored_in names p s k (Slot q n) = if is_touched p s (Slot q n) then Some (stored_word names s k n) else None
 
 abbrev pub stored : List Name → ℕ → FrameStore → ℕ × Name → Option Assign
 stored names p s item = stored_in names p s item.0 item.1

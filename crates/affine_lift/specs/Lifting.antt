@@ -8,6 +8,7 @@
 --   positions_where test names         the set of the positions of the names that pass the test
 --   is_tracked_register name           the name is a register
 --   is_slot_of a name                  the name is a slot of the procedure with the entry a
+--   chooses chosen name                the name is of those meant: registers, slots of a procedure, slots that a store touches
 --   proc_of points names a             the procedure with the entry a
 --   owners_in points                   the number of the procedure of each node
 --   edges_by points assigns u p flow   the edges from node u of procedure p, where its instruction makes these assignments and
@@ -40,6 +41,9 @@ use Rattle.flow_points.specs.declared.code_points.Flow.TheVariants.{Call, Return
 use Rattle.frame_offsets.specs.Frames.{offset_at}
 use Rattle.report_text.specs.declared.names.Name.{Name}
 use Rattle.report_text.specs.declared.names.Name.TheVariants.{Register, Slot}
+use Rattle.affine_lift.specs.declared.chosen.Chosen.{Chosen}
+use Rattle.affine_lift.specs.declared.chosen.Chosen.TheVariants.{Registers, SlotsOf, SlotsTouched}
+use Rattle.affine_lift.specs.FrameSlots.{is_touched}
 use Rattle.affine_lift.specs.Effects.{effect_of, AreOffsetsAt, IsEffect}
 
 abbrev pub is_at : Point → CodePoint → Bool
@@ -65,6 +69,11 @@ is_tracked_register (Slot p n) = false
 abbrev pub is_slot_of : ℕ → Name → Bool
 is_slot_of a (Register r) = false
 is_slot_of a (Slot p n) = p == a
+
+abbrev pub chooses : Chosen → Name → Bool
+chooses Registers name = is_tracked_register name
+chooses (SlotsOf a) name = is_slot_of a name
+chooses (SlotsTouched p s) name = is_touched p s name
 
 abbrev pub proc_of : FlowPoints → List Name → ℕ → Proc
 proc_of points names a =

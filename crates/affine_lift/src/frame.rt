@@ -2,7 +2,7 @@
 
 ghost use Rattle.std.specs.Prelude.{◌≡◌, ◌<◌, ◌≤◌, length, position, IfOk, IfSome};
 ghost use Rattle.affine_lift.specs.Values.{IsHeldIn};
-ghost use Rattle.affine_lift.specs.FrameSlots.{slot_offset, is_slot_at, loaded, width_of, is_byte_of, touches, store_of, is_whole, stored_word, stored_in, stores_of};
+ghost use Rattle.affine_lift.specs.FrameSlots.{slot_offset, is_slot_at, loaded, width_of, is_byte_of, touches, is_touched, store_of, is_whole, stored_word, stored_in, stores_of};
 
 use crate::registers::{assigned, multiple};
 use crate::store::FrameStore;
@@ -119,13 +119,23 @@ pub fn stored_in(
     ensures { result ≡ stored_in names.now proc_entry store place name }
 {
     match name {
-        Name::Slot {
-            proc_entry: owner,
-            below,
-        } if owner == proc_entry && touches(width_of(store.op), store.offset, below) => {
+        Name::Slot { below, .. } if is_touched(proc_entry, store, &name) => {
             Some(stored_word(names, store, place, below))
         }
         _ => None,
+    }
+}
+
+/// Whether the name is a slot of the procedure that the store touches.
+pub fn is_touched(proc_entry: u64, store: FrameStore, name: &Name) -> bool
+    ensures { result ≡ is_touched proc_entry store name.now }
+{
+    match *name {
+        Name::Register(_) => false,
+        Name::Slot {
+            proc_entry: owner,
+            below,
+        } => owner == proc_entry && touches(width_of(store.op), store.offset, below),
     }
 }
 

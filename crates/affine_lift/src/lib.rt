@@ -13,15 +13,19 @@
 //! ```
 #![tactic(auto)]
 
+mod chosen;
 mod effect;
 mod frame;
+mod laws;
 mod names;
+mod positions;
 mod program;
 mod refusal;
 mod registers;
 mod store;
 mod value;
 
+pub use laws::{programs_are_one, visible_names_are_seen};
 pub use names::read_tracked;
-pub use program::lift;
+pub use program::{lift, slot_writes};
 pub use refusal::TrackRefusal;

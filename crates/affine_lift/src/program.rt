@@ -5,9 +5,12 @@ ghost use Rattle.affine_prog.specs.Programs.{edge, IsWellFormed};
 ghost use Rattle.flow_points.specs.Walks.{point};
 ghost use Rattle.frame_offsets.specs.Frames.{AreOffsetsOf, offset_at};
 ghost use Rattle.affine_lift.specs.Effects.{effect_of};
-ghost use Rattle.affine_lift.specs.Lifting.{node_of, number_of, exit_of, positions_where, is_tracked_register, is_slot_of, proc_of, owners_in, edges_by, edges_along, offset_from, IsLifted};
+ghost use Rattle.affine_lift.specs.Lifting.{node_of, number_of, exit_of, proc_of, owners_in, edges_by, edges_along, offset_from, IsLifted, WritesSlots};
 
-use crate::effect::{code_at, effect_of};
+use crate::chosen::Chosen;
+use crate::effect::{access_of, code_at, effect_of};
+use crate::frame::store_of;
+use crate::positions::positions_where;
 use affine_prog::{Assign, Edge, Kind, Proc, Program};
 use flow_points::{Flow, Points};
 use frame_offsets::Offsets;
@@ -34,13 +37,28 @@ pub fn lift(
     let edges = all_edges(alloc, points, offsets, names)?;
     Ok(Program {
         width: names.len() as u32,
-        registers: tracked_registers(names),
+        registers: positions_where(names, Chosen::Registers),
         nodes: points.count() + points.procedures().len() as u32,
         procs: Items::from_vec(procs),
         owners,
         edges,
         start: number_of(points, points.entry()),
     })
+}
+
+/// The slots that a point assigns, bit i for position i.
+pub fn slot_writes(points: &Points, offsets: &Offsets, tracked: &Tracked, point: u32) -> u16
+    requires point { point < length points.now.points }
+    requires offsets { AreOffsetsOf points.now offsets.now }
+    ensures { IsSomeAnd (slice_get points.now.points point) (λ c. WritesSlots points.now.points tracked.now.names c result) }
+{
+    let code = code_at(points, point);
+    let access = access_of(points, offsets, point);
+    let chosen = match store_of(&code.instr, access) {
+        Some(store) => Chosen::SlotsTouched(code.point.proc_entry, store),
+        None => return 0,
+    };
+    positions_where(tracked.names.as_slice(), chosen)
 }
 
 // The number of the point at an address in a procedure.
@@ -77,48 +95,6 @@ fn exit_of(points: &Points, entry: u64) -> u32
     points.count() + number_of(points, entry)
 }
 
-// The positions of registers.
-fn tracked_registers(names: &[Name]) -> u16
-    requires { length names.now ≤ 16 }
-    ensures { result ≡ positions_where is_tracked_register names.now }
-{
-    let mut positions = 0;
-    for (i, name) in names.iter().enumerate() {
-        positions += u16::from(is_tracked_register(name)) << i;
-    }
-    positions
-}
-
-fn is_tracked_register(name: &Name) -> bool
-    ensures { result ≡ is_tracked_register name.now }
-{
-    match name {
-        Name::Register(_) => true,
-        Name::Slot { .. } => false,
-    }
-}
-
-// The positions of the slots of a procedure.
-fn slots_of(names: &[Name], entry: u64) -> u16
-    requires { length names.now ≤ 16 }
-    ensures { result ≡ positions_where (is_slot_of entry) names.now }
-{
-    let mut positions = 0;
-    for (i, name) in names.iter().enumerate() {
-        positions += u16::from(is_slot_of(entry, name)) << i;
-    }
-    positions
-}
-
-fn is_slot_of(entry: u64, name: &Name) -> bool
-    ensures { result ≡ is_slot_of entry name.now }
-{
-    match *name {
-        Name::Register(_) => false,
-        Name::Slot { proc_entry, .. } => proc_entry == entry,
-    }
-}
-
 fn proc_of(points: &Points, names: &[Name], entry: u64) -> Proc
     requires { length names.now ≤ 16 }
     ensures { result ≡ proc_of points.now names.now entry }
@@ -126,7 +102,7 @@ fn proc_of(points: &Points, names: &[Name], entry: u64) -> Proc
     Proc {
         entry: node_of(points, entry, entry),
         exit: exit_of(points, entry),
-        slots: slots_of(names, entry),
+        slots: positions_where(names, Chosen::SlotsOf(entry)),
     }
 }
 

@@ -23,7 +23,7 @@ returns-clause-lifted c =
     let names = c.as_slice-names.ensures in
     record {
       width = ap length names;
-      registers = c.tracked_registers.ensures ∙ ap (positions_where is_tracked_register) names;
+      registers = c.positions_where.ensures ∙ ap (positions_where is_tracked_register) names;
       procs = c.from_vec.ensures ∙ c.in_ok-procs.ensures ∙ ap (λ ns. map (proc_of c.args.points.now ns) c.args.points.now.procedures) names;
       nodes = let count = c.count.ensures.count in let procs = ap length c.procedures.ensures in omega arith;
       owners = c.in_ok-owners.ensures;
