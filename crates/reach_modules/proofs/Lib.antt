@@ -17,3 +17,4 @@ mod Starts
 mod Working
 mod Placing
 mod Starting
+mod NoReturns

@@ -45,7 +45,7 @@ begins program formed registers given none starts listed rows rows_listed empty 
     }
 
 -- bases without rows
-no_rows_at : (n u : ℕ) → rows_at (replicate n []) u ≡ []
+pub no_rows_at : (n u : ℕ) → rows_at (replicate n []) u ≡ []
 no_rows_at zero u = refl
 no_rows_at (suc n) zero = refl
 no_rows_at (suc n) (suc u) = no_rows_at n u

@@ -180,9 +180,6 @@ module _ (program : Program) (formed : IsWellFormed program) (bases new : List (
       rw works.working.nodes (All-weaker (Contains rest) (IsOffer program.nodes)
       (λ x h. All-contains (IsOffer program.nodes) (rest ++ o ∷ []) x popped.pending_are (Contains-append_left rest (o ∷ []) x h)) rest (All-contains_itself rest))
 
-  pub node_below : o.node < program.nodes
-  node_below = (All-contains (IsOffer program.nodes) (rest ++ o ∷ []) o popped.pending_are (Contains-append_right rest (o ∷ []) o (first_in o []))).below
-
   module _ (offers taken : List Offer) (pushes : Pushes program o.node o.row offers) (same : taken ≡ offers) where
     pub offers_are : All (IsOffer (length bases)) taken
     offers_are = rw (works.working.nodes, same) pushes.are
