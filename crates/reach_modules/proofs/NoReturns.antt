@@ -10,7 +10,7 @@ use Rattle.affine_prog.specs.declared.Edge.{Edge}
 use Rattle.affine_prog.specs.declared.Kind.TheVariants.{Do, Call}
 use Rattle.affine_prog.specs.Programs.{edge, entry_of, exit_of}
 use Rattle.affine_prog.specs.LevelPaths.{LevelPath, opening, step, call}
-use Rattle.affine_prog.specs.Spans.{rows_at, IsMapOf, AreExits}
+use Rattle.affine_prog.specs.Spans.{IsMapOf, AreExits}
 use Rattle.reach_modules.specs.Exits.{NeverReturns}
 use Rattle.reach_modules.proofs.Membership.{nothing_in}
 use Rattle.reach_modules.proofs.Starting.{no_rows_at}

@@ -2,7 +2,7 @@ use Rattle.std.proofs.Common.{take, get_or, sym, subst}
 use Rattle.std.proofs.lemmas.List.{take_more, take_all}
 use Rattle.reach_modules.specs.Worklists.{AlongOffers, EdgeOffers}
 use Rattle.reach_modules.proofs.Lookups.{found, edge_below, edge_contained, edge_is}
-use Rattle.reach_modules.proofs.Offering.{along_none, along_more, along_all}
+use Rattle.reach_modules.proofs.Leaving.{along_none, along_more, along_all}
 use Rattle.reach_modules.proofs.edges.row_offers.Goals as goal
 
 pub loop-k-init : goal.loop-k-init

@@ -1,6 +1,6 @@
 use Rattle.std.proofs.Common.{◌∷◌, ◌++◌, [], flat_map, ap, ◌∙◌}
 use Rattle.reach_modules.specs.Made.{images_of}
-use Rattle.reach_modules.proofs.Imaging.{none_spans, images_more}
+use Rattle.reach_modules.proofs.InOrder.{none_spans, images_more}
 use Rattle.reach_modules.proofs.made.images.Goals as goal
 
 pub loop-assign-init : goal.loop-assign-init

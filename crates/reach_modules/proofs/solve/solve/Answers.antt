@@ -2,7 +2,8 @@ use Rattle.std.proofs.Common.{ap, sym, subst, ◌∙◌, arith, length, List, �
 use Rattle.std.proofs.lemmas.List.{length-replicate}
 use Rattle.reach_modules.specs.Offers.{Takes}
 use Rattle.reach_modules.specs.Starts.{Begins}
-use Rattle.reach_modules.proofs.Starting.{works_at_start, firsts_are, new_bases, new_sound, bounded_by}
+use Rattle.reach_modules.proofs.Starting.{works_at_start, firsts_are, new_bases, new_sound}
+use Rattle.reach_modules.proofs.Bounding.{bounded_by}
 use Rattle.reach_modules.proofs.solve.solve.Goals as goal
 
 pub take_all-requires-clause-offers : goal.take_all-requires-clause-offers

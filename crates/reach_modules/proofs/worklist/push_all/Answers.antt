@@ -1,6 +1,7 @@
 use Rattle.std.proofs.Common.{subst}
 use Rattle.reach_modules.specs.Worklists.{Works}
-use Rattle.reach_modules.proofs.Working.{Turned, turn, rest_are, sound_after, reached_at_end}
+use Rattle.reach_modules.proofs.Turning.{Turned, turn, rest_are, sound_after}
+use Rattle.reach_modules.proofs.Ending.{reached_at_end}
 use Rattle.reach_modules.proofs.worklist.push_all.Given as given
 use Rattle.reach_modules.proofs.worklist.push_all.Goals as goal
 

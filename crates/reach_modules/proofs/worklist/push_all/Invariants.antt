@@ -1,4 +1,5 @@
-use Rattle.reach_modules.proofs.Working.{WorksSoFar, measure}
+use Rattle.reach_modules.proofs.Turning.{WorksSoFar}
+use Rattle.reach_modules.proofs.Ending.{measure}
 use Rattle.reach_modules.proofs.worklist.push_all.Given as goal
 
 abbrev pub invariant-loop-row : goal.invariant-loop-row
