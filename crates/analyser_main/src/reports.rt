@@ -46,7 +46,9 @@ pub fn report_of(alloc: Global, points: &Points, registers: &[u8]) -> Result<Rep
     let names = names_of(alloc, registers)?;
     let tracked = Tracked { names };
     Ok(Report {
+        version: 1,
         tracked,
+        certs: Items::new(alloc),
         points: told,
     })
 }

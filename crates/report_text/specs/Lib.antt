@@ -1,3 +1,4 @@
 pub mod Names
+pub mod Certificates
 pub mod Reports
 pub mod Text

@@ -2,10 +2,11 @@
 --
 --   IsName name                 a register from 1 to 31, or a slot an allowed number of bytes below
 --   IsName-prop name            this has one proof at most
+--   is_certified r              r is sp, ra or one of s0 to s11, which a callee leaves as they were
 --   IsAllowedBelow n            n is a multiple of 8 from 8 to 2048
 --   IsSeenIn procedure name     name is a register, or a slot of the procedure
 --   IsSeenAt names procedure k  position k is that of a name seen in the procedure
-use Rattle.std.specs.Prelude.{◌≡◌, ℕ, ◌<◌, ◌≤◌, ◌%◌, List, slice_get, IsSomeAnd}
+use Rattle.std.specs.Prelude.{◌≡◌, ℕ, ◌<◌, ◌≤◌, ◌%◌, ◌==◌, nat_le, Bool, ◌&&◌, ◌||◌, List, slice_get, IsSomeAnd}
 use Rattle.std.proofs.Props.{props}
 use Rattle.report_text.specs.declared.names.Name.{Name}
 use Rattle.report_text.specs.declared.names.Name.TheVariants.{Register, Slot}
@@ -23,6 +24,9 @@ IsName (Slot p below) = IsAllowedBelow below
 pub IsName-prop : (name : Name) → IsProp (IsName name)
 IsName-prop (Register r) = hlevel props
 IsName-prop (Slot p below) = hlevel props
+
+abbrev pub is_certified : ℕ → Bool
+is_certified r = r == 1 || r == 2 || r == 8 || r == 9 || (nat_le 18 r && nat_le r 27)
 
 abbrev pub IsSeenIn : ℕ → Name → Type 0
 IsSeenIn procedure (Register r) = Unit {0}

@@ -1,9 +1,13 @@
 -- The text of a report.
 --
---   report  = "affine-report 1" nl "track " names nl proc* "end" nl
+--   report  = one | two
+--   one     = "affine-report 1" nl "track " names nl proc* "end" nl
+--   two     = "affine-report 2" nl "track " names nl proc2* "end" nl
 --   names   = name ("," name)*
 --   name    = register | hex ":-" dec
 --   proc    = "proc " hex nl point+
+--   proc2   = "proc " hex nl cert* point+
+--   cert    = "cert " register " " ("granted" | "broken" | "never") nl
 --   point   = "at " hex nl ( "none" nl | "unreached" nl | rel+ )
 --   rel     = "rel " lead (" " sign term)* (" " sign dec)? nl
 --   lead    = dec "*" name
@@ -25,12 +29,20 @@
 --   point_text names point   a point's line and what is told there
 --   proc_text procedure      a procedure's line
 --   opening_text before procedure   that line, unless the point before is of the same procedure
---   points_text names before points   the points, behind one of the procedure `before`
+--   cert_word_text word      what is certified
+--   cert_text cert           the line of a certificate
+--   certs_text certs         the lines of certificates
+--   own_count procedure certs   how many certificates stand before the first of another procedure
+--   points_text names certs before points   the points, behind one of the procedure `before`; each procedure's certificates
+--                            stand in front of its first point, and certs are those of the procedures from here on
 --   text_of report           the whole text
-use Rattle.std.specs.Prelude.{ℕ, ◌-◌, ◌^◌, Bool, true, ◌&&◌, nat_le, List, [], ◌∷◌, ◌++◌, Option, Some, None, codes, slice_index, if◌then◌else◌, ◌==◌}
-use Rattle.std.specs.List.{flat_map}
+use Rattle.std.specs.Prelude.{ℕ, ◌-◌, ◌^◌, Bool, true, not, ◌&&◌, nat_le, List, [], ◌∷◌, ◌++◌, take, drop, Option, Some, None, codes, slice_index, if◌then◌else◌, ◌==◌}
+use Rattle.std.specs.List.{flat_map, position_or_len}
 use Rattle.number_text.specs.Numerals.{dec, hex}
 use Rattle.rv_decode.specs.Registers.{name_of_register}
+use Rattle.report_text.specs.declared.certs.CertWord.{CertWord}
+use Rattle.report_text.specs.declared.certs.CertWord.TheVariants.{Granted, Broken, Never}
+use Rattle.report_text.specs.declared.certs.ReportCert.{ReportCert}
 use Rattle.report_text.specs.declared.names.Name.{Name}
 use Rattle.report_text.specs.declared.names.Name.TheVariants.{Register, Slot}
 use Rattle.report_text.specs.declared.points.PointRows.{PointRows}
@@ -97,13 +109,28 @@ abbrev pub opening_text : Option ℕ → ℕ → List ℕ
 opening_text None procedure = proc_text procedure
 opening_text (Some before) procedure = if before == procedure then [] else proc_text procedure
 
--- the points, each procedure's line before its first point; before is the procedure of the point before them
-abbrev pub points_text : List Name → Option ℕ → List PointRows → List ℕ
-points_text names before [] = []
-points_text names before (point ∷ points) =
-    opening_text before point.proc_entry ++ point_text names point ++ points_text names (Some point.proc_entry) points
+abbrev pub cert_word_text : CertWord → List ℕ
+cert_word_text Granted = codes "granted"
+cert_word_text Broken = codes "broken"
+cert_word_text Never = codes "never"
+
+abbrev pub cert_text : ReportCert → List ℕ
+cert_text cert = codes "cert " ++ name_of_register cert.register ++ codes " " ++ cert_word_text cert.word ++ nl
+
+abbrev pub certs_text : List ReportCert → List ℕ
+certs_text certs = flat_map cert_text certs
+
+abbrev pub own_count : ℕ → List ReportCert → ℕ
+own_count procedure certs = position_or_len (λ c. not (c.proc_entry == procedure)) certs
+
+abbrev pub points_text : List Name → List ReportCert → Option ℕ → List PointRows → List ℕ
+points_text names certs before [] = []
+points_text names certs before (point ∷ points) =
+    let own = own_count point.proc_entry certs in
+    opening_text before point.proc_entry ++ certs_text (take own certs) ++ point_text names point
+    ++ points_text names (drop own certs) (Some point.proc_entry) points
 
 abbrev pub text_of : Report → List ℕ
 text_of report =
-    codes "affine-report 1" ++ nl ++ codes "track " ++ names_text report.tracked.names ++ nl
-    ++ points_text report.tracked.names None report.points ++ codes "end" ++ nl
+    codes "affine-report " ++ dec report.version ++ nl ++ codes "track " ++ names_text report.tracked.names ++ nl
+    ++ points_text report.tracked.names report.certs None report.points ++ codes "end" ++ nl

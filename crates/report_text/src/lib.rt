@@ -1,15 +1,17 @@
 //! Names, and reports of relations as text.
 //!
 //! A [`Report`] has the tracked names and, for points that ascend by procedure and address, the reduced
-//! rows of the relations that hold there, or that no state reaches the point. [`write_report`] gives the
-//! text of the grammar in `specs/Text.antt`, byte for byte. That the rows are those of some program is
-//! left to whoever makes the report.
+//! rows of the relations that hold there, or that no state reaches the point. In version 2 it has a
+//! certificate for each procedure of the points and each tracked register among sp, ra and s0 to s11.
+//! [`write_report`] gives the text of the report's version by the grammar in `specs/Text.antt`, byte for
+//! byte. That rows and certificates are those of some program is left to whoever makes the report.
 //!
 //! ```text
 //! let text = write_report(alloc, &report)?; // "affine-report 1\ntrack a0\nproc 0x10078\n.."
 //! ```
 #![tactic(auto)]
 
+mod certs;
 mod names;
 mod points;
 mod reports;
@@ -17,6 +19,7 @@ mod reports;
 mod tests;
 mod writer;
 
+pub use certs::{CertWord, ReportCert, is_certified};
 pub use names::{Name, Tracked};
 pub use points::{PointRows, PointState};
 pub use reports::Report;

@@ -1,14 +1,14 @@
-//! A small report as text.
+//! Small reports as text.
 
-ghost use Rattle.std.specs.Prelude.{◌≡◌};
-
-use crate::{Name, PointRows, PointState, Report, Tracked, write_report};
+use crate::{
+    CertWord, Name, PointRows, PointState, Report, ReportCert, Tracked, is_certified, write_report,
+};
 use sqlite_items::Items;
 use std::alloc::{AllocError, Global};
 use std::test::Fail;
 
-/// A report on a register and a slot: nothing holds at the first point, no state reaches the second.
-fn small_report(alloc: Global) -> Result<Report, AllocError> {
+/// A report of version 1 on a register and a slot: nothing holds at the first point, no state reaches the second.
+fn first_version(alloc: Global) -> Result<Report, AllocError> {
     let slot = Name::Slot {
         proc_entry: 0x10078,
         below: 8,
@@ -26,17 +26,57 @@ fn small_report(alloc: Global) -> Result<Report, AllocError> {
     let names = Items::from_vec(vec![in alloc; Name::Register(10), slot]?);
     let points = Items::from_vec(vec![in alloc; first, second]?);
     Ok(Report {
+        version: 1,
         tracked: Tracked { names },
+        certs: Items::new(alloc),
+        points,
+    })
+}
+
+/// A report of version 2 on sp and a0 in two procedures: the first never returns.
+fn second_version(alloc: Global) -> Result<Report, AllocError> {
+    let first = PointRows {
+        proc_entry: 0x10078,
+        address: 0x10078,
+        state: PointState::Unreached,
+    };
+    let second = PointRows {
+        proc_entry: 0x10080,
+        address: 0x10080,
+        state: PointState::Unreached,
+    };
+    let never = ReportCert {
+        proc_entry: 0x10078,
+        register: 2,
+        word: CertWord::Never,
+    };
+    let granted = ReportCert {
+        proc_entry: 0x10080,
+        register: 2,
+        word: CertWord::Granted,
+    };
+    let names = Items::from_vec(vec![in alloc; Name::Register(2), Name::Register(10)]?);
+    let points = Items::from_vec(vec![in alloc; first, second]?);
+    let certs = Items::from_vec(vec![in alloc; never, granted]?);
+    Ok(Report {
+        version: 2,
+        tracked: Tracked { names },
+        certs,
         points,
     })
 }
 
 #[test]
-fn small_report_as_text(rt: HostRuntime) -> Result<(), Fail> {
+fn reports_as_text(rt: HostRuntime) -> Result<(), Fail> {
     let alloc = rt.alloc();
-    let text = write_report(alloc, &small_report(alloc)?)?;
+    let first = write_report(alloc, &first_version(alloc)?)?;
     let want =
         "affine-report 1\ntrack a0,0x10078:-8\nproc 0x10078\nat 0x10078\nnone\nat 0x1007c\nunreached\nend\n";
-    assert_eq!(rt; text.as_slice(), want.as_bytes());
+    assert_eq!(rt; first.as_slice(), want.as_bytes());
+    let second = write_report(alloc, &second_version(alloc)?)?;
+    let want =
+        "affine-report 2\ntrack sp,a0\nproc 0x10078\ncert sp never\nat 0x10078\nunreached\nproc 0x10080\ncert sp granted\nat 0x10080\nunreached\nend\n";
+    assert_eq!(rt; second.as_slice(), want.as_bytes());
+    assert!(rt; is_certified(1) && is_certified(27) && !is_certified(10) && !is_certified(28));
     Ok(())
 }

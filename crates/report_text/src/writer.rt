@@ -1,10 +1,11 @@
 //! The writer of reports. Each function appends one part of the text.
 
-ghost use Rattle.std.specs.Prelude.{◌≡◌, ◌≤◌, ◌++◌, length, All, true, IfOk, OnOk, codes};
+ghost use Rattle.std.specs.Prelude.{◌≡◌, ◌==◌, ◌≤◌, ◌++◌, length, All, true, not, position, IfOk, OnOk, codes};
 ghost use Rattle.number_text.specs.Numerals.{hex};
 ghost use Rattle.report_text.specs.Names.{IsName};
-ghost use Rattle.report_text.specs.Text.{nl, name_text, names_text, further_names_text, sign, magnitude, term_text, word_text, terms_text, constant_text, rel_text, rows_text, point_text, points_text, text_of};
+ghost use Rattle.report_text.specs.Text.{nl, name_text, names_text, further_names_text, sign, magnitude, term_text, word_text, terms_text, constant_text, rel_text, rows_text, point_text, cert_word_text, cert_text, certs_text, own_count, points_text, text_of};
 
+use crate::certs::{CertWord, ReportCert};
 use crate::names::Name;
 use crate::points::{PointRows, PointState};
 use crate::reports::Report;
@@ -13,16 +14,19 @@ use rv_decode::register_name;
 use std::alloc::{AllocError, Global};
 use word_rows::Row;
 
-/// The text of a report, as the report's page of the documentation gives it.
+/// The text of a report in the form of its version.
 pub fn write_report(alloc: Global, report: &Report) -> Result<Vec<u8>, AllocError>
     ensures { IfOk result (λ text. text.items ≡ text_of report.now) }
 {
     let names = report.tracked.names.as_slice();
     let mut text = Vec::new(alloc);
-    text.extend_from_slice(b"affine-report 1\ntrack ")?;
+    text.extend_from_slice(b"affine-report ")?;
+    push_dec(&mut text, u64::from(report.version))?;
+    text.extend_from_slice(b"\ntrack ")?;
     push_names(&mut text, names)?;
     text.extend_from_slice(b"\n")?;
-    push_points(&mut text, names, report.points.as_slice())?;
+    let (certs, points) = (report.certs.as_slice(), report.points.as_slice());
+    push_points(&mut text, names, certs, points)?;
     text.extend_from_slice(b"end\n")?;
     Ok(text)
 }
@@ -65,20 +69,76 @@ fn push_name(text: &mut Vec<u8>, name: Name) -> Result<(), AllocError>
     }
 }
 
-fn push_points(text: &mut Vec<u8>, names: &[Name], points: &[PointRows]) -> Result<(), AllocError>
+fn push_points(
+    text: &mut Vec<u8>,
+    names: &[Name],
+    certs: &[ReportCert],
+    points: &[PointRows],
+) -> Result<(), AllocError>
     requires names { All IsName names.now }
     requires few { length names.now ≤ 16 }
-    ensures { OnOk result (text.new.items ≡ text.old.items ++ points_text names.now None points.now) }
+    ensures { OnOk result (text.new.items ≡ text.old.items ++ points_text names.now certs.now None points.now) }
 {
     let mut before = None;
+    let mut certs = certs;
     for point in points {
         if before != Some(point.proc_entry) {
             push_line(text, b"proc ", point.proc_entry)?;
         }
+        let (own, later) = certs.split_at(own_count(point.proc_entry, certs));
+        push_certs(text, own)?;
+        certs = later;
         push_point(text, names, point)?;
         before = Some(point.proc_entry);
     }
     Ok(())
+}
+
+// How many certificates stand before the first of another procedure.
+fn own_count(procedure: u64, certs: &[ReportCert]) -> usize
+    ensures count { result ≡ own_count procedure certs.now }
+    ensures within { result ≤ length certs.now }
+{
+    match first_other(procedure, certs) {
+        Some(at) => at,
+        None => certs.len(),
+    }
+}
+
+// Where the first certificate of another procedure stands.
+fn first_other(procedure: u64, certs: &[ReportCert]) -> Option<usize>
+    ensures { result ≡ position (λ c. not (c.proc_entry == procedure)) certs.now }
+{
+    certs.iter().position(|cert| cert.proc_entry != procedure)
+}
+
+fn push_certs(text: &mut Vec<u8>, certs: &[ReportCert]) -> Result<(), AllocError>
+    ensures { OnOk result (text.new.items ≡ text.old.items ++ certs_text certs.now) }
+{
+    for cert in certs {
+        push_cert(text, cert)?;
+    }
+    Ok(())
+}
+
+fn push_cert(text: &mut Vec<u8>, cert: &ReportCert) -> Result<(), AllocError>
+    ensures { OnOk result (text.new.items ≡ text.old.items ++ cert_text cert.now) }
+{
+    text.extend_from_slice(b"cert ")?;
+    text.extend_from_slice(register_name(cert.register).as_bytes())?;
+    text.extend_from_slice(b" ")?;
+    text.extend_from_slice(cert_word(cert.word).as_bytes())?;
+    text.extend_from_slice(b"\n")
+}
+
+fn cert_word(word: CertWord) -> &'static str
+    ensures { result.now ≡ cert_word_text word }
+{
+    match word {
+        CertWord::Granted => "granted",
+        CertWord::Broken => "broken",
+        CertWord::Never => "never",
+    }
 }
 
 fn push_point(text: &mut Vec<u8>, names: &[Name], point: &PointRows) -> Result<(), AllocError>

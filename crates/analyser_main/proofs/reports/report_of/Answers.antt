@@ -1,4 +1,4 @@
-use Rattle.std.proofs.Common.{◌≡◌, ◌+◌, ◌-◌, length, get_or, arith}
+use Rattle.std.proofs.Common.{◌≡◌, ◌+◌, ◌-◌, length, get_or, refl, arith}
 use Rattle.std.proofs.lemmas.Grind.{merely}
 use Rattle.std.proofs.lemmas.List.{length-map}
 use Rattle.std.proofs.lemmas.Option.{slice_get-get_or}
@@ -59,6 +59,9 @@ invariant_of-result c =
     (entry_within points c.entry_number-entry.result c.entry_number-entry.ensures) c.in_ok-told.ensures.told
     (rw c.count.ensures.count at c.in_ok-high.ensures.told) c.in_ok-append.ensures in
     record {
+      versions = (omega arith, omega arith);
+      without = merely (λ one. c.new.ensures);
+      certified = merely (λ two. absurd (omega (arith, two)));
       ascending = merely (told_ascend registers points c.append.new.self c.requires.straight all);
       reduced = merely (rw names (told_rows registers points (length points.points) c.append.new.self all));
     }
@@ -71,6 +74,8 @@ returns-clause-report c =
     (entry_within points c.entry_number-entry.result c.entry_number-entry.ensures) c.in_ok-told.ensures.told
     (rw c.count.ensures.count at c.in_ok-high.ensures.told) c.in_ok-append.ensures in
     record {
+      version = refl;
+      no_certs = c.new.ensures;
       names = c.in_ok-names.ensures;
       count = all.size;
       told = λ i code point at is. told_each registers points (length points.points) c.append.new.self i code point all at is;

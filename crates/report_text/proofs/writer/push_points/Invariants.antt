@@ -5,5 +5,5 @@ use Rattle.report_text.proofs.writer.push_points.Given as goal
 
 abbrev pub invariant-loop-point : goal.invariant-loop-point
 invariant-loop-point l =
-    l.text.items ++ points_text l.names l.before (drop l.point-index l.points)
-    ≡ l.initial.text.items ++ points_text l.names l.initial.before l.points
+    l.text.items ++ points_text l.names l.certs l.before (drop l.point-index l.points)
+    ≡ l.initial.text.items ++ points_text l.names l.initial.certs l.initial.before l.points
