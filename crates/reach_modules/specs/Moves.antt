@@ -3,6 +3,7 @@
 --
 --   IsMatrixOf assigns m       m is the matrix of the assignments under some choice
 --   IsReturn program s q m     m is the map of a level path of procedure q to its exit, as a caller with the slots s sees it
+--   KindMap program u to kind v m   along an edge of this kind from u to `to`, m is the map of a move to node v
 --   EdgeMap program e v m      along the edge e, m is the map of a move to node v: of its assignments to its end, or of these
 --                              and a return of its call; or of these and an opening of its callee to the callee's entry
 --   Moves program u v m        along some edge from node u, m is the map of a move to node v
