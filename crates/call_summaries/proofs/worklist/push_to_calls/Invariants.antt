@@ -1,0 +1,7 @@
+use Rattle.call_summaries.specs.Pushes.{Back}
+use Rattle.call_summaries.proofs.AlongEdges.{PushedSoFar}
+use Rattle.call_summaries.proofs.worklist.push_to_calls.Given as goal
+
+abbrev pub invariant-loop-place : goal.invariant-loop-place
+invariant-loop-place g l =
+    PushedSoFar l.program (λ e old new. Back l.program e old new l.row.row) l.places l.place-index l.fn.bases.items l.bases.items l.fn.list l.list l.fn.steps l.steps

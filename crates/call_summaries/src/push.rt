@@ -1,0 +1,172 @@
+//! What one edge makes of a row, offered to its end.
+
+ghost use Rattle.std.specs.Prelude.{◌≡◌, ◌<◌, ℕ, List, All, Contains, IfOk, OnOk, length, bit_and};
+ghost use Rattle.row_modules.specs.Bases.{IsLeadingBasis};
+ghost use Rattle.affine_prog.specs.Assignments.{position_of};
+ghost use Rattle.affine_prog.specs.Programs.{exit_of, owner_of, slots_of, IsWellFormed};
+ghost use Rattle.affine_prog.specs.Spans.{rows_at};
+ghost use Rattle.call_summaries.specs.Images.{IsConstantRow, IsPrepared};
+ghost use Rattle.call_summaries.specs.NodeRows.{AreSound, IsSound};
+ghost use Rattle.call_summaries.specs.Growth.{Returned, Grows, Takes};
+ghost use Rattle.call_summaries.specs.Tables.{assigns_of, ReturnsTo};
+ghost use Rattle.call_summaries.specs.Pushes.{PushesForward, PushesBack};
+
+use crate::NodeRow;
+use crate::images::images_along;
+use crate::take::{take_calls, take_products, take_rows};
+use affine_prog::{Assign, Edge, Kind, Program};
+use lead_basis::{Memory, Steps};
+use map_modules::{Mat, MatBasis, extend_call};
+use sqlite_items::Items;
+use std::alloc::Global;
+use std::sync::ledger::Ledger;
+
+/// The registers, and the slots of the procedure that owns a node.
+fn sets_at(program: &Program, node: u32) -> (u16, u16)
+    requires formed { IsWellFormed program.now }
+    requires node { node < program.now.nodes }
+    ensures registers { result.0 ≡ program.now.registers }
+    ensures slots { result.1 ≡ slots_of program.now (owner_of program.now node) }
+    ensures disjoint { bit_and result.0 result.1 ≡ 0 }
+{
+    let owner = program.proc_of(node);
+    (
+        program.registers,
+        program.procs.as_slice()[owner as usize].slots,
+    )
+}
+
+/// The exit of a procedure.
+fn exit_of(program: &Program, callee: u32) -> u32
+    requires formed { IsWellFormed program.now }
+    requires callee { callee < length program.now.procs }
+    ensures exit { result ≡ exit_of program.now callee }
+    ensures node { result < program.now.nodes }
+{
+    program.procs.as_slice()[callee as usize].exit
+}
+
+/// A copy of the rows of a node.
+fn rows_of(alloc: Global, bases: &[MatBasis], node: u32) -> Result<Items<Mat>, Memory>
+    requires { node < length bases.now }
+    ensures { IfOk result (λ rows. rows ≡ rows_at bases.now node) }
+{
+    match Items::from_slice(alloc, bases[node as usize].rows()) {
+        Ok(rows) => Ok(rows),
+        Err(_) => Err(Memory),
+    }
+}
+
+/// Offers what an edge makes of a row, and of it and the rows of the callee's exit.
+pub(crate) fn push_forward<L: Ledger>(
+    alloc: Global,
+    program: &Program,
+    edge: &Edge,
+    prepared: &[Mat],
+    bases: &mut Vec<MatBasis>,
+    list: &mut Items<NodeRow>,
+    row: &Mat,
+    steps: &mut Steps<L>,
+) -> Result<(), Memory>
+    requires formed { IsWellFormed program.now }
+    requires edge { Contains program.now.edges edge.now }
+    requires prepared { IsPrepared (assigns_of edge.now.kind) prepared.now }
+    requires nodes { length bases.old.items ≡ program.now.nodes }
+    requires bases { All (IsLeadingBasis 289) bases.old.items }
+    requires sound { AreSound program.now bases.old.items }
+    requires own { IsSound program.now edge.now.from row.now }
+    ensures grows { Grows (IsSound program.now) bases.old.items bases.new.items steps.old steps.new }
+    ensures pushes { OnOk result (PushesForward program.now edge.now bases.old.items bases.new.items row.now list.old list.new steps.old steps.new) }
+{
+    match &edge.kind {
+        Kind::Do(assigns) => {
+            let images = images_along(alloc, assigns.as_slice(), prepared, row)?;
+            take_rows(bases, list, edge.to, images.as_slice(), steps)
+        }
+        Kind::Call { callee, before } => {
+            let images = images_along(alloc, before.as_slice(), prepared, row)?;
+            let callees = rows_of(alloc, bases, exit_of(program, *callee))?;
+            let sets = sets_at(program, edge.from);
+            take_calls(
+                alloc,
+                bases,
+                list,
+                edge.to,
+                sets,
+                callees.as_slice(),
+                images.as_slice(),
+                steps,
+            )
+        }
+    }
+}
+
+/// Offers what a call makes of each caller's row, with an extended map of the callee.
+fn take_callers<L: Ledger>(
+    alloc: Global,
+    before: &[Assign],
+    prepared: &[Mat],
+    bases: &mut Vec<MatBasis>,
+    list: &mut Items<NodeRow>,
+    to: u32,
+    extended: &Mat,
+    callers: &[Mat],
+    steps: &mut Steps<L>,
+) -> Result<(), Memory>
+    requires placed { All (λ a. position_of a < 16) before.now }
+    requires prepared { IsPrepared before.now prepared.now }
+    requires callers { (m : List ℕ) → Contains callers.now m → IsConstantRow m }
+    requires to { to < length bases.old.items }
+    requires bases { All (IsLeadingBasis 289) bases.old.items }
+    ensures grows { Grows (Returned before.now extended.now to callers.now) bases.old.items bases.new.items steps.old steps.new }
+    ensures takes { OnOk result (Takes (Returned before.now extended.now to callers.now) bases.old.items bases.new.items list.old list.new steps.old steps.new) }
+{
+    for caller in callers {
+        let images = images_along(alloc, before, prepared, caller)?;
+        take_products(alloc, bases, list, to, extended, images.as_slice(), steps)?;
+    }
+    Ok(())
+}
+
+/// Offers what a call makes of a row of its callee's exit and the rows at the call.
+pub(crate) fn push_back<L: Ledger>(
+    alloc: Global,
+    program: &Program,
+    edge: &Edge,
+    prepared: &[Mat],
+    bases: &mut Vec<MatBasis>,
+    list: &mut Items<NodeRow>,
+    row: &NodeRow,
+    steps: &mut Steps<L>,
+) -> Result<(), Memory>
+    requires formed { IsWellFormed program.now }
+    requires edge { Contains program.now.edges edge.now }
+    requires returns { ReturnsTo program.now row.now.node edge.now.kind }
+    requires prepared { IsPrepared (assigns_of edge.now.kind) prepared.now }
+    requires nodes { length bases.old.items ≡ program.now.nodes }
+    requires bases { All (IsLeadingBasis 289) bases.old.items }
+    requires sound { AreSound program.now bases.old.items }
+    requires own { IsSound program.now row.now.node row.now.row }
+    ensures grows { Grows (IsSound program.now) bases.old.items bases.new.items steps.old steps.new }
+    ensures pushes { OnOk result (PushesBack program.now edge.now bases.old.items bases.new.items row.now.row list.old list.new steps.old steps.new) }
+{
+    match &edge.kind {
+        Kind::Do(_) => Ok(()),
+        Kind::Call { before, .. } => {
+            let sets = sets_at(program, edge.from);
+            let extended = extend_call(&row.row, sets.0, sets.1);
+            let callers = rows_of(alloc, bases, edge.from)?;
+            take_callers(
+                alloc,
+                before.as_slice(),
+                prepared,
+                bases,
+                list,
+                edge.to,
+                &extended,
+                callers.as_slice(),
+                steps,
+            )
+        }
+    }
+}

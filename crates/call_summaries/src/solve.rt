@@ -1,0 +1,58 @@
+//! The engine: bases at the nodes of chosen procedures.
+
+ghost use Rattle.std.specs.Prelude.{◌≡◌, ◌+◌, ◌≤◌, [], IfOk, length, replicate};
+ghost use Rattle.affine_prog.specs.Programs.{IsWellFormed};
+ghost use Rattle.call_summaries.specs.Work.{work_bound, row_count};
+ghost use Rattle.call_summaries.specs.Solutions.{OthersStay, IsSolved};
+
+use crate::lookups::tables_of;
+use crate::openings::open_all;
+use crate::worklist::push_row;
+use affine_prog::{Program, paths_end_at_nodes};
+use lead_basis::{Memory, Steps};
+use map_modules::MatBasis;
+use sqlite_items::Items;
+use std::alloc::Global;
+use std::sync::ledger::Ledger;
+
+/// A basis without rows for each node.
+fn empty_bases(alloc: Global, nodes: u32) -> Result<Vec<MatBasis>, Memory>
+    ensures { IfOk result (λ bases. bases.items ≡ replicate nodes []) }
+{
+    let mut bases = Vec::new(alloc);
+    for _ in 0..nodes {
+        match bases.push(MatBasis::new(alloc)) {
+            Ok(()) => {}
+            Err(_) => return Err(Memory),
+        }
+    }
+    Ok(bases)
+}
+
+/// For each node a basis: of the module of the maps of the level paths to it, where its procedure is wanted. A procedure that
+/// isn't wanted must have no level path to its exit, and its nodes have bases without rows.
+pub(crate) fn solve<L: Ledger>(
+    alloc: Global,
+    program: &Program,
+    wanted: &[bool],
+    steps: &mut Steps<L>,
+) -> Result<Vec<MatBasis>, Memory>
+    requires formed { IsWellFormed program.now }
+    requires wanted { length wanted.now ≡ length program.now.procs }
+    requires others { OthersStay program.now wanted.now }
+    ensures solved { IfOk result (λ bases. IsSolved program.now wanted.now bases.items) }
+    ensures never_falls { steps.old ≤ steps.new }
+    ensures bounded { steps.new ≤ steps.old + work_bound program.now }
+    ensures counted { IfOk result (λ bases. steps.old + row_count bases.items ≤ steps.new) }
+{
+    paths_end_at_nodes();
+    let tables = tables_of(alloc, program)?;
+    let mut bases = empty_bases(alloc, program.nodes)?;
+    let mut list = Items::new(alloc);
+    open_all(alloc, program, wanted, &mut bases, &mut list, steps)?;
+    while let Some(row) = list.pop() {
+        row.row.known();
+        push_row(alloc, program, &tables, &mut bases, &mut list, &row, steps)?;
+    }
+    Ok(bases)
+}
