@@ -1,0 +1,3 @@
+mod RelationsTold
+mod PointsTold
+mod Worked

@@ -1,0 +1,5 @@
+pub mod Accepted
+pub mod Reports
+pub mod Work
+pub mod Told
+pub mod Made

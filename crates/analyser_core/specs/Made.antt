@@ -1,0 +1,36 @@
+-- An analysis as it is made, for points and names that are accepted. No public contract cites these words.
+--
+--   IsMade points names before after report
+--                             the report is that of the program that is lifted from them, and the counter rose by at least
+--                             the number of rows of bases of the states at all nodes
+--   IsMadeOf points names report
+--                             so it is, whatever the counter did
+--   HasWorked points names before after
+--                             the counter stayed, or there is such a program and it rose by no more than the bound
+use Rattle.std.specs.Prelude.{◌≡◌, ℕ, ◌+◌, ◌≤◌, List, All, length, sum_by}
+use Rattle.row_modules.specs.Bases.{IsLeadingBasis}
+use Rattle.flow_points.specs.PointLists.{FlowPoints}
+use Rattle.affine_prog.specs.declared.Program.{Program}
+use Rattle.affine_prog.specs.Spans.{AreReached}
+use Rattle.affine_lift.specs.Lifting.{IsLifted}
+use Rattle.report_text.specs.declared.names.Name.{Name}
+use Rattle.report_text.specs.declared.reports.Report.{Report}
+use Rattle.analyser_core.specs.Reports.{IsReportOf}
+use Rattle.analyser_core.specs.Work.{work_bound, nodes_of}
+
+pub record IsMade (points : FlowPoints) (names : List Name) (before after : ℕ) (report : Report) : Type 0 where
+  pub program : Program
+  pub lifted : IsLifted points names program
+  pub is_report : IsReportOf program points names report
+  pub rows : (lists : List (List (List ℕ))) → AreReached program lists → All (IsLeadingBasis 17) lists
+      → before + sum_by length lists ≤ after
+
+pub record IsMadeOf (points : FlowPoints) (names : List Name) (report : Report) : Type 0 where
+  pub program : Program
+  pub lifted : IsLifted points names program
+  pub is_report : IsReportOf program points names report
+
+pub data HasWorked (points : FlowPoints) (names : List Name) (before after : ℕ) : Type 0 where
+  none : after ≡ before → HasWorked points names before after
+  some : (program : Program) → IsLifted points names program → before ≤ after
+      → after ≤ before + work_bound (length names) (nodes_of points) → HasWorked points names before after

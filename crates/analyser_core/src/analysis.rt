@@ -1,0 +1,103 @@
+//! The analysis.
+
+ghost use Rattle.std.specs.Prelude.{◌≡◌, ◌<◌, IfOk, IfErr, MatchResult};
+ghost use Rattle.analyser_core.specs.Accepted.{IsRefusal};
+ghost use Rattle.analyser_core.specs.Reports.{IsReportOver};
+ghost use Rattle.analyser_core.specs.Work.{IsWithinWork, CountsStates};
+ghost use Rattle.analyser_core.specs.Made.{IsMade, IsMadeOf, HasWorked};
+
+use crate::Refusal;
+use crate::accept::accepted;
+use crate::tell::{known_states, told};
+use affine_lift::lift;
+use call_summaries::exits;
+use flow_points::Points;
+use frame_offsets::offsets;
+use lead_basis::Steps;
+use reach_modules::solve::reach_by_exits;
+use report_text::{Report, Tracked};
+use sqlite_items::Items;
+use std::alloc::Global;
+use std::marker::Brand;
+use std::sync::ledger::{Blank, Ledger};
+
+/// What an analysis found.
+#[derive(Debug, Drop)]
+pub struct Analysis {
+    pub report: Report,
+}
+
+/// The analysis of a file's bytes for the names of a list; or the first cause why there is none. The
+/// steps are placements of rows in the bases of the program's nodes.
+pub fn analyse<L: Ledger>(
+    alloc: Global,
+    bytes: &[u8],
+    track: &str,
+    steps: &mut Steps<L>,
+) -> Result<Analysis, Refusal>
+    ensures report { MatchResult result (λ a. IsReportOver bytes.now track.now a.report) (IsRefusal bytes.now track.now) }
+    ensures bounded { IsWithinWork bytes.now track.now steps.old steps.new }
+    ensures counts_states { IfOk result (λ a. CountsStates bytes.now track.now steps.old steps.new) }
+{
+    let (points, tracked) = match accepted(alloc, bytes, track) {
+        Ok(accepted) => accepted,
+        Err(refusal) => return Err(refusal),
+    };
+    analysis_of(alloc, &points, tracked, steps)
+}
+
+/// The same, for a caller that counts nothing.
+pub fn analyse_uncounted(alloc: Global, bytes: &[u8], track: &str) -> Result<Analysis, Refusal>
+    ensures { MatchResult result (λ a. IsReportOver bytes.now track.now a.report) (IsRefusal bytes.now track.now) }
+{
+    let (points, tracked) = match accepted(alloc, bytes, track) {
+        Ok(accepted) => accepted,
+        Err(refusal) => return Err(refusal),
+    };
+    analysis_from::<Brand>(alloc, &points, tracked, Blank::new(1))
+}
+
+// The same on a ledger that begins.
+fn analysis_from<L: Ledger>(
+    alloc: Global,
+    points: &Points,
+    tracked: Tracked,
+    blank: Blank,
+) -> Result<Analysis, Refusal>
+    requires name { blank.name ≡ L.name }
+    requires parts { blank.parts ≡ L.parts }
+    requires some { 0 < blank.parts }
+    ensures made { IfOk result (λ a. IsMadeOf points.now tracked.names a.report) }
+    ensures refusal { IfErr result (λ refusal. refusal ≡ Refusal.Memory) }
+{
+    let mut steps = Steps::<L>::new(blank);
+    analysis_of(alloc, points, tracked, &mut steps)
+}
+
+// The analysis of points for names.
+fn analysis_of<L: Ledger>(
+    alloc: Global,
+    points: &Points,
+    tracked: Tracked,
+    steps: &mut Steps<L>,
+) -> Result<Analysis, Refusal>
+    ensures made { IfOk result (λ a. IsMade points.now tracked.names steps.old steps.new a.report) }
+    ensures refusal { IfErr result (λ refusal. refusal ≡ Refusal.Memory) }
+    ensures worked { HasWorked points.now tracked.names steps.old steps.new }
+{
+    let offsets = offsets(alloc, points)?;
+    let program = lift(alloc, points, &offsets, &tracked)?;
+    let exits = exits(alloc, &program, steps)?;
+    let reached = reach_by_exits(alloc, &program, exits.bases(), steps)?;
+    known_states(&reached, program.nodes);
+    points.known();
+    let points = told(alloc, points, &tracked, &program, &reached)?;
+    Ok(Analysis {
+        report: Report {
+            version: 1,
+            tracked,
+            certs: Items::new(alloc),
+            points,
+        },
+    })
+}

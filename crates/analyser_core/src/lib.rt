@@ -1,0 +1,21 @@
+//! The analysis, from a file's bytes and a track list to the report.
+//!
+//! [`analyse`] accepts the file, its code and the list, or tells the first cause for which it doesn't;
+//! lifts the code to a program; and gives the report of which each point's rows generate exactly the
+//! affine relations that hold there after every path of that program. What holds is defined over paths
+//! alone (`affine_prog`), and what the program is, over walks and instructions (`affine_lift`).
+//! [`image_of`] and [`points_of`] are its first steps. Texts, files and commands are left to others.
+//!
+//! ```text
+//! let analysis = analyse(alloc, &bytes, "sp,ra,0x10080:-8", &mut steps)?;
+//! ```
+#![tactic(auto)]
+
+mod accept;
+mod analysis;
+mod refusal;
+mod tell;
+
+pub use accept::{image_of, points_of};
+pub use analysis::{Analysis, analyse, analyse_uncounted};
+pub use refusal::Refusal;

@@ -1,0 +1,100 @@
+//! The points of a report: what the states that reach them tell.
+
+ghost use Rattle.std.specs.Prelude.{◌≡◌, ◌<◌, ◌++◌, ◌∷◌, [], length, All, IsTrue, IfOk, OnOk};
+ghost use Rattle.row_modules.specs.Bases.{IsLeadingBasis};
+ghost use Rattle.row_modules.specs.Positions.{has};
+ghost use Rattle.affine_prog.specs.Programs.{IsWellFormed};
+ghost use Rattle.affine_prog.specs.Spans.{AreReached};
+ghost use Rattle.affine_lift.specs.Lifting.{IsLifted};
+ghost use Rattle.analyser_core.specs.Told.{told_positions, Relates, AreTold};
+
+use affine_lift::visible_names_are_seen;
+use affine_prog::{Program, paths_keep_states, relations_annihilate_states};
+use flow_points::Points;
+use lead_basis::{Basis, Memory};
+use reach_modules::Reach;
+use relation_solver::{Relations, solve};
+use report_text::{PointRows, PointState, Tracked};
+use sqlite_items::Items;
+use std::alloc::Global;
+
+/// Each point with the relations of the states that reach it.
+pub(crate) fn told(
+    alloc: Global,
+    points: &Points,
+    tracked: &Tracked,
+    program: &Program,
+    reached: &Reach,
+) -> Result<Items<PointRows>, Memory>
+    requires formed { IsWellFormed program.now }
+    requires lifted { IsLifted points.now tracked.now.names program.now }
+    requires reached { AreReached program.now reached.now }
+    ensures told { IfOk result (AreTold program.now points.now tracked.now.names) }
+    ensures count { IfOk result (λ told. length told ≡ length points.now.points) }
+{
+    points.known();
+    paths_keep_states();
+    relations_annihilate_states();
+    visible_names_are_seen();
+    let mut told = Items::new(alloc);
+    for u in 0..points.count() {
+        let point = points.point(u);
+        let states = reached.at(u);
+        states.known();
+        let state = state_of(alloc, states, visible_at(program, u))?;
+        let tells = PointRows {
+            proc_entry: point.proc_entry,
+            address: point.address,
+            state,
+        };
+        push(&mut told, tells)?;
+    }
+    Ok(told)
+}
+
+/// What the bases of the states keep.
+pub(crate) fn known_states(reached: &Reach, nodes: u32)
+    requires { length reached.now ≡ nodes }
+    ensures { All (IsLeadingBasis 17) reached.now }
+{
+    for u in 0..nodes {
+        reached.at(u).known();
+    }
+}
+
+// The positions that are visible at a node, and the constant's.
+fn visible_at(program: &Program, node: u32) -> u32
+    requires formed { IsWellFormed program.now }
+    requires node { node < program.now.nodes }
+    ensures { result ≡ told_positions program.now node }
+{
+    let owner = program.proc_of(node) as usize;
+    let slots = program.procs.as_slice()[owner].slots;
+    u32::from(program.registers | slots) | 1 << 16
+}
+
+fn push(told: &mut Items<PointRows>, point: PointRows) -> Result<(), Memory>
+    ensures { OnOk result (told.new ≡ told.old ++ point ∷ []) }
+{
+    match told.push(point) {
+        Ok(()) => Ok(()),
+        Err(_) => Err(Memory),
+    }
+}
+
+// The relations of the states, where there are states.
+fn state_of(alloc: Global, states: &Basis<17>, visible: u32) -> Result<PointState, Memory>
+    requires { IsTrue (has visible 16) }
+    ensures { IfOk result (Relates visible states.now) }
+{
+    match solve::relations(alloc, states, visible)? {
+        Relations::Unreached => Ok(PointState::Unreached),
+        Relations::Rows(basis) => {
+            basis.known();
+            match Vec::from_slice(alloc, basis.rows()) {
+                Ok(rows) => Ok(PointState::Rows(Items::from_vec(rows))),
+                Err(_) => Err(Memory),
+            }
+        }
+    }
+}
