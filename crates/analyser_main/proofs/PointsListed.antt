@@ -1,21 +1,16 @@
 -- Points, one at a time.
-use Rattle.std.proofs.Common.{◌≡◌, ℕ, ◌+◌, List, [], ◌∷◌, ◌++◌, take, drop, slice_get, Option, Some, sym, ap, append_assoc, ◌∙◌}
-use Rattle.std.proofs.lemmas.List.{drop_more, take_more}
+use Rattle.std.proofs.Common.{◌≡◌, ℕ, ◌+◌, List, [], ◌∷◌, ◌++◌, drop, slice_get, Option, Some, sym, ap, append_assoc, ◌∙◌}
+use Rattle.std.proofs.lemmas.List.{drop_more}
 use Rattle.std.proofs.lemmas.Option.{get_or_from_slice_get, slice_get_within}
 use Rattle.flow_points.specs.declared.code_points.CodePoint.{CodePoint}
 use Rattle.report_text.specs.Text.{opening_text}
-use Rattle.analyser_main.specs.Listing.{code_text, codes_text}
+use Rattle.analyser_main.specs.PointsList.{code_text, codes_text}
 
--- the point at place i comes first of those from there on, and last of those up to there
-pub from_here : (points : List CodePoint) (i : ℕ) (code : CodePoint) → slice_get points i ≡ Some code → drop i points ≡ code ∷ drop (i + 1) points
+-- the point at place i comes first of those from there on
+from_here : (points : List CodePoint) (i : ℕ) (code : CodePoint) → slice_get points i ≡ Some code → drop i points ≡ code ∷ drop (i + 1) points
 from_here points i code at =
     drop_more points i code (slice_get_within points i code at)
     ∙ ap (λ c. c ∷ drop (i + 1) points) (get_or_from_slice_get points i code code at)
-
-pub up_to_here : (points : List CodePoint) (i : ℕ) (code : CodePoint) → slice_get points i ≡ Some code → take (i + 1) points ≡ take i points ++ code ∷ []
-up_to_here points i code at =
-    take_more points i code (slice_get_within points i code at)
-    ∙ ap (λ c. take i points ++ c ∷ []) (get_or_from_slice_get points i code code at)
 
 codes_from_here : (before : Option ℕ) (points : List CodePoint) (i : ℕ) (code : CodePoint) → slice_get points i ≡ Some code →
     codes_text before (drop i points)

@@ -5,7 +5,7 @@ use Rattle.std.specs.declared.alloc.AllocError.{AllocError}
 use Rattle.std.specs.Option.{IfSome}
 use Rattle.std.specs.Result.{IfOk}
 use Rattle.std.proofs.lemmas.List.{length-replicate}
-use Rattle.analyser_main.specs.Analysed.{most_bytes}
+use Rattle.analyser_core.specs.Accepted.{most_bytes}
 use Rattle.analyser_main.specs.Lines.{too_long_line}
 use Rattle.analyser_main.specs.Answers.{IsAnswerOver}
 

@@ -1,15 +1,28 @@
--- Answers: the status and the text of an order.
+-- Answers: the status and the text of an order, and how a call ends.
 --
+--   Call                              what a call was given and did, as clauses see it: the contents of each name before it,
+--                                     each name's count of faults before it and after it, the bytes written before and after,
+--                                     where the sink tells them, and the sink's count before and after
+--   call .. files files' out out'     the call between these files and sinks, by what their types tell
 --   IsRefused bytes status text       what every order over a file gets for bytes that are too many, or no image,
 --                                     or whose code is refused for its flow
 --   IsAnswer list bytes status text   what `analyse` answers over a file with these bytes
+--   IsListed bytes text               the bytes are accepted, and the text is the list of their points
 --   IsListing bytes status text       what `list` answers over it
+--   IsUsage status text               what arguments get that are no order
 --   IsAnswerOver contents answer ..   an answer over the contents where they are told, and else over some bytes
---   IsUsage status text               what an order of no known form gets
---   Says ..                           a text was put whole, with its status, or was cut short by a write fault
---   Ends ..                           how a call ends whose order has one status and text: by saying these, or
---                                     the line of a read fault, or that of want of memory, in their place
+--   Says old new status text Rose answer
+--                                     the text was put whole, and the answer is the status; or a put failed behind a prefix
+--                                     of it, for the cause Rose, and the answer is 4
+--   read_fault_text, no_memory_text   the lines of a read fault and of want of memory
+--   SaysIn call status text answer    the same of the call's sink, whose count rose where a put failed
+--   Ends Is Rose call answer          a call ends by saying a status and a text of which Is holds; or the line of a read fault,
+--                                     whose cause is Rose; or that of want of memory
+--   EndsOver file Is call answer      the same of an order over a file, where Is speaks of the file's bytes and a read fault
+--                                     comes only where the count of the file's faults rose
+--   IsCarriedOut order call answer    the call ends as the order has it
 use Rattle.std.specs.Prelude.{◌≡◌, ℕ, ◌<◌, ◌≤◌, List, ◌++◌, Option, Some, None, length, codes}
+use Rattle.outside.specs.Counts.{HasRisen}
 use Rattle.outside.specs.Written.{Gains, GainsPrefix}
 use Rattle.elf_image.specs.declared.image.Image.{Image}
 use Rattle.elf_image.specs.declared.refusal.ElfRefusal.{ElfRefusal}
@@ -17,12 +30,35 @@ use Rattle.elf_image.specs.Refusals.{refusal_of}
 use Rattle.flow_points.specs.Refusals.{IsFlowRefusal}
 use Rattle.flow_points.specs.PointLists.{FlowPoints}
 use Rattle.flow_points.specs.declared.refusal.FlowRefusal.{FlowRefusal}
+use Rattle.affine_lift.specs.Tracking.{IsTrackRefusal}
+use Rattle.affine_lift.specs.declared.refusal.TrackRefusal.{TrackRefusal}
 use Rattle.report_text.specs.declared.reports.Report.{Report}
 use Rattle.report_text.specs.Text.{nl, text_of}
-use Rattle.analyser_main.specs.declared.refusals.TrackRefusal.{TrackRefusal}
-use Rattle.analyser_main.specs.Lists.{IsTrackRefusal}
-use Rattle.analyser_main.specs.Lines.{elf_line, flow_line, track_line, too_long_line, not_yet_line}
-use Rattle.analyser_main.specs.Analysed.{most_bytes, HasColon, IsImageOf, IsStraight, IsNotYet, IsAnalysed, IsListed}
+use Rattle.analyser_core.specs.Accepted.{most_bytes, IsImageOf, HasPoints}
+use Rattle.analyser_core.specs.Reports.{IsReportOver}
+use Rattle.analyser_main.specs.Orders.{Order, Usage, Analyse, ListCode}
+use Rattle.analyser_main.specs.Lines.{elf_line, flow_line, track_line, too_long_line}
+use Rattle.analyser_main.specs.PointsList.{list_text}
+
+pub record Call : Type 0 where
+  pub contents : List ℕ → Option (List ℕ)
+  pub faults_before : List ℕ → ℕ
+  pub faults_after : List ℕ → ℕ
+  pub written_before : Option (List ℕ)
+  pub written_after : Option (List ℕ)
+  pub sink_before : ℕ
+  pub sink_after : ℕ
+
+abbrev pub call : {F K : Type 0} → (F → List ℕ → Option (List ℕ)) → (F → List ℕ → ℕ) → (K → Option (List ℕ)) → (K → ℕ) → F → F → K → K → Call
+call contents faults written sink_faults files files' out out' = record {
+  contents = contents files;
+  faults_before = faults files;
+  faults_after = faults files';
+  written_before = written out;
+  written_after = written out';
+  sink_before = sink_faults out;
+  sink_after = sink_faults out';
+}
 
 pub data IsRefused (bytes : List ℕ) : ℕ → List ℕ → Type 0 where
   too_long : (status : ℕ) (text : List ℕ) → most_bytes < length bytes → status ≡ 1 → text ≡ too_long_line → IsRefused bytes status text
@@ -33,26 +69,30 @@ pub data IsRefused (bytes : List ℕ) : ℕ → List ℕ → Type 0 where
 
 pub data IsAnswer (list bytes : List ℕ) : ℕ → List ℕ → Type 0 where
   refused : (status : ℕ) (text : List ℕ) → IsRefused bytes status text → IsAnswer list bytes status text
-  not_yet : (status a : ℕ) (text : List ℕ) (image : Image) → length bytes ≤ most_bytes → IsImageOf bytes image → IsNotYet list image a →
-      status ≡ 1 → text ≡ not_yet_line a → IsAnswer list bytes status text
   no_list : (status : ℕ) (text : List ℕ) (image : Image) (points : FlowPoints) (refusal : TrackRefusal) → length bytes ≤ most_bytes →
-      IsImageOf bytes image → (HasColon list → ⊥) → IsStraight image points → IsTrackRefusal list refusal →
+      IsImageOf bytes image → HasPoints image points → IsTrackRefusal points.procedures list refusal →
       status ≡ 1 → text ≡ track_line refusal → IsAnswer list bytes status text
-  analysed : (status : ℕ) (text : List ℕ) (image : Image) (report : Report) → length bytes ≤ most_bytes → IsImageOf bytes image →
-      IsAnalysed list image report → status ≡ 0 → text ≡ text_of report → IsAnswer list bytes status text
+  analysed : (status : ℕ) (text : List ℕ) (report : Report) → length bytes ≤ most_bytes → IsReportOver bytes list report →
+      status ≡ 0 → text ≡ text_of report → IsAnswer list bytes status text
+
+pub record IsListed (bytes text : List ℕ) : Type 0 where
+  pub image : Image
+  pub points : FlowPoints
+  pub is_image : IsImageOf bytes image
+  pub has_points : HasPoints image points
+  pub text_is : text ≡ list_text points.points
 
 pub data IsListing (bytes : List ℕ) : ℕ → List ℕ → Type 0 where
   refused : (status : ℕ) (text : List ℕ) → IsRefused bytes status text → IsListing bytes status text
-  listed : (status : ℕ) (text : List ℕ) (image : Image) → length bytes ≤ most_bytes → IsImageOf bytes image → IsListed image text →
-      status ≡ 0 → IsListing bytes status text
-
-abbrev pub IsAnswerOver : Option (List ℕ) → (List ℕ → ℕ → List ℕ → Type 0) → ℕ → List ℕ → Type 0
-IsAnswerOver (Some bytes) answer status text = answer bytes status text
-IsAnswerOver None answer status text = (bytes : List ℕ) × answer bytes status text
+  listed : (status : ℕ) (text : List ℕ) → length bytes ≤ most_bytes → IsListed bytes text → status ≡ 0 → IsListing bytes status text
 
 pub record IsUsage (status : ℕ) (text : List ℕ) : Type 0 where
   pub status_is : status ≡ 2
   pub text_is : text ≡ codes "usage:" ++ nl ++ codes "analyse FILE --track LIST" ++ nl ++ codes "list FILE" ++ nl
+
+abbrev pub IsAnswerOver : Option (List ℕ) → (List ℕ → ℕ → List ℕ → Type 0) → ℕ → List ℕ → Type 0
+IsAnswerOver (Some bytes) answer status text = answer bytes status text
+IsAnswerOver None answer status text = (bytes : List ℕ) × answer bytes status text
 
 abbrev pub read_fault_text : List ℕ
 read_fault_text = codes "read fault" ++ nl
@@ -60,14 +100,22 @@ read_fault_text = codes "read fault" ++ nl
 abbrev pub no_memory_text : List ℕ
 no_memory_text = codes "out of memory" ++ nl
 
--- the text was put whole and the answer is the status, or a put failed behind a prefix of it and the answer is 4
-pub data Says (old new : Option (List ℕ)) (status : ℕ) (text : List ℕ) (SinkRose : Type 0) : ℕ → Type 0 where
-  whole : (answer : ℕ) → Gains old new text → answer ≡ status → Says old new status text SinkRose answer
-  cut : (answer : ℕ) → SinkRose → GainsPrefix old new text → answer ≡ 4 → Says old new status text SinkRose answer
+pub data Says (old new : Option (List ℕ)) (status : ℕ) (text : List ℕ) (Rose : Type 0) : ℕ → Type 0 where
+  whole : (answer : ℕ) → Gains old new text → answer ≡ status → Says old new status text Rose answer
+  cut : (answer : ℕ) → Rose → GainsPrefix old new text → answer ≡ 4 → Says old new status text Rose answer
 
--- FileRose and SinkRose say that the count of the file that the order names, or of the sink, rose in the call
-pub data Ends (Is : ℕ → List ℕ → Type 0) (FileRose SinkRose : Type 0) (old new : Option (List ℕ)) : ℕ → Type 0 where
-  answered : (answer status : ℕ) (text : List ℕ) → Is status text → Says old new status text SinkRose answer →
-      Ends Is FileRose SinkRose old new answer
-  read_fault : (answer : ℕ) → FileRose → Says old new 3 read_fault_text SinkRose answer → Ends Is FileRose SinkRose old new answer
-  no_memory : (answer : ℕ) → Says old new 5 no_memory_text SinkRose answer → Ends Is FileRose SinkRose old new answer
+abbrev pub SaysIn : Call → ℕ → List ℕ → ℕ → Type 0
+SaysIn c status text answer = Says c.written_before c.written_after status text (HasRisen c.sink_before c.sink_after) answer
+
+pub data Ends (Is : ℕ → List ℕ → Type 0) (Rose : Type 0) (c : Call) : ℕ → Type 0 where
+  answered : (answer status : ℕ) (text : List ℕ) → Is status text → SaysIn c status text answer → Ends Is Rose c answer
+  read_fault : (answer : ℕ) → Rose → SaysIn c 3 read_fault_text answer → Ends Is Rose c answer
+  no_memory : (answer : ℕ) → SaysIn c 5 no_memory_text answer → Ends Is Rose c answer
+
+abbrev pub EndsOver : List ℕ → (List ℕ → ℕ → List ℕ → Type 0) → Call → ℕ → Type 0
+EndsOver file Is c answer = Ends (IsAnswerOver (c.contents file) Is) (HasRisen (c.faults_before file) (c.faults_after file)) c answer
+
+abbrev pub IsCarriedOut : Order → Call → ℕ → Type 0
+IsCarriedOut Usage c answer = Ends IsUsage ⊥ c answer
+IsCarriedOut (Analyse file list) c answer = EndsOver file (IsAnswer list) c answer
+IsCarriedOut (ListCode file) c answer = EndsOver file IsListing c answer

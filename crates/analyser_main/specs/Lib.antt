@@ -1,15 +1,6 @@
-pub mod Lists
-pub mod Refusals
-pub mod Effects
-pub mod States
-pub mod Reports
-pub mod Steps
-pub mod Runs
-pub mod Listing
-pub mod Turns
 pub mod Orders
-pub mod OrdersGiven
-pub mod Analysed
+pub mod OrdersRead
 pub mod Lines
+pub mod PointsList
 pub mod Answers
 pub mod Replies

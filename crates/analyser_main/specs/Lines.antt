@@ -7,7 +7,7 @@
 --   at_address text a    the line of a refusal at an address
 --   flow_line refusal     the line of what an image's code is refused for
 --   track_line refusal    the line of what a list is refused for
---   too_long_line, not_yet_line a
+--   too_long_line         the line for a file with too many bytes
 --   IsLineOf refusal text the text is the refusal's line; want of memory has none
 use Rattle.std.specs.Prelude.{◌≡◌, ℕ, List, [], ◌++◌, codes}
 use Rattle.number_text.specs.Numerals.{dec, hex, hex8}
@@ -18,10 +18,11 @@ use Rattle.elf_image.specs.declared.refusal.ElfRefusal.TheVariants.{Short, NotEl
 use Rattle.flow_points.specs.declared.refusal.FlowRefusal as flows
 use Rattle.flow_points.specs.declared.refusal.FlowRefusal.{FlowRefusal}
 use Rattle.flow_points.specs.declared.refusal.FlowRefusal.TheVariants.{TooManyPoints, OutsideCode, NoInstruction, OddLink, IndirectJump, MisalignedTarget, IntoPair}
-use Rattle.analyser_main.specs.declared.refusals.Refusal as refusals
-use Rattle.analyser_main.specs.declared.refusals.Refusal.{Refusal}
-use Rattle.analyser_main.specs.declared.refusals.TrackRefusal.{TrackRefusal}
-use Rattle.analyser_main.specs.declared.refusals.TrackRefusal.TheVariants.{Empty, TooMany, UnknownName, Repeated}
+use Rattle.analyser_core.specs.declared.refusal.Refusal as refusals
+use Rattle.analyser_core.specs.declared.refusal.Refusal.{Refusal}
+use Rattle.affine_lift.specs.declared.refusal.TrackRefusal.{TrackRefusal}
+use Rattle.affine_lift.specs.declared.refusal.TrackRefusal as tracks
+use Rattle.affine_lift.specs.declared.refusal.TrackRefusal.TheVariants.{Empty, TooMany, UnknownName, BadSlot, NoSuchProcedure, Repeated}
 
 abbrev pub at_offset : List ℕ → ℕ → List ℕ
 at_offset text offset = codes "refused " ++ text ++ codes " at offset " ++ dec offset ++ nl
@@ -68,17 +69,16 @@ abbrev pub track_line : TrackRefusal → List ℕ
 track_line Empty = refused (codes "Empty")
 track_line (TooMany limit) = refused (valued (codes "TooMany") (dec limit))
 track_line (UnknownName place) = refused (valued (codes "UnknownName") (dec place))
+track_line (BadSlot place) = refused (valued (codes "BadSlot") (dec place))
+track_line (NoSuchProcedure place) = refused (valued (codes "NoSuchProcedure") (dec place))
 track_line (Repeated place) = refused (valued (codes "Repeated") (dec place))
+track_line tracks.TheVariants.Memory = []
 
 abbrev pub too_long_line : List ℕ
 too_long_line = refused (codes "TooLong 16777216")
 
-abbrev pub not_yet_line : ℕ → List ℕ
-not_yet_line a = refused (codes "NotYet at " ++ hex a)
-
 abbrev pub IsLineOf : Refusal → List ℕ → Type 0
 IsLineOf (refusals.TheVariants.Elf refusal) text = text ≡ elf_line refusal
 IsLineOf (refusals.TheVariants.Flow refusal) text = text ≡ flow_line refusal
-IsLineOf (refusals.TheVariants.NotYet a) text = text ≡ not_yet_line a
 IsLineOf (refusals.TheVariants.Track refusal) text = text ≡ track_line refusal
 IsLineOf refusals.TheVariants.Memory text = ⊥

@@ -1,56 +1,57 @@
 //! The affine-relation analyser: its commands, and the call that carries what they promise.
 //!
-//! `analyse FILE --track LIST` prints, for each instruction of straight code in an ELF file, rows that
-//! generate all affine relations modulo 2^64 that hold there between 1 to 16 registers and a constant.
-//! `list FILE` prints the instructions that may be reached, whatever the code is. `affine_main` takes
-//! the words after the program's name, files to read and a sink for the text, and gives the exit status:
-//! its clauses say which text the sink gains, and why each status comes. `main` calls it over the
-//! system's files and standard output.
+//! `analyse FILE --track LIST` prints, for each instruction of an ELF file that can be reached, rows that
+//! generate all affine relations modulo 2^64 that hold there between 1 to 16 registers and frame slots
+//! and a constant. `list FILE` prints the instructions themselves. `affine_main` takes the arguments
+//! after the program's name, files to read and a sink for the text, and gives the exit status: its
+//! clause says which text the sink gains, and why each status comes. `run_with` ends with that status;
+//! `main` calls it over the system's arguments, files and standard output.
 //!
 //! ```text
 //! analyser_main analyse one_register.elf --track a0
 //! ```
 #![tactic(auto)]
 
-mod affine;
-mod analysis;
-mod answers;
-mod codes;
-mod effects;
-mod listing;
-mod lists;
-mod order;
-mod orders;
+mod analyse_command;
+mod commands;
+mod file_reply;
+mod list_command;
+mod points_list;
 mod refusal_lines;
-mod refusals;
-mod replies;
-mod reports;
 #[cfg(test)]
 mod tests;
-mod turns;
-mod values;
+mod top_call;
+mod track_lines;
 
-use crate::affine::{affine_main, want_of_memory};
+use crate::top_call::run_with;
 use outside::{DiskFiles, StdSink};
 use std::process::ExitCode;
 use std::{env, io};
 
-fn main(rt: HostRuntime) -> ExitCode {
-    let mut out = StdSink::new(&rt);
-    let status = match words_given(&rt) {
-        Ok(words) => affine_main(
-            rt.alloc(),
-            &words,
-            &mut DiskFiles::new(rt.alloc(), &rt),
-            &mut out,
-        ),
-        Err(_) => want_of_memory(&mut out),
-    };
-    ExitCode::from(status)
+/// What the arguments after the program's name ask for.
+#[derive(Clone, Copy, Debug)]
+pub enum Order<'a> {
+    Usage,
+    Analyse { file: &'a str, list: &'a str },
+    ListCode { file: &'a str },
 }
 
-// The words after the program's name.
-fn words_given(rt: &HostRuntime) -> io::Result<Vec<String>> {
+/// What an order gets: a status with a text, or word of a fault or of want of memory.
+#[derive(Debug, Drop)]
+pub enum Reply {
+    Whole { status: u8, text: Vec<u8> },
+    ReadFault,
+    OutOfMemory,
+}
+
+fn main(rt: HostRuntime) -> ExitCode {
+    let mut files = DiskFiles::new(rt.alloc(), &rt);
+    let mut out = StdSink::new(&rt);
+    run_with(rt.alloc(), arguments(&rt), &mut files, &mut out)
+}
+
+// The arguments after the program's name.
+fn arguments(rt: &HostRuntime) -> io::Result<Vec<String>> {
     let mut words = Vec::new(rt.alloc());
     for word in env::args(rt)?.skip(1) {
         words.push(word)?;

@@ -1,13 +1,14 @@
-//! The lines of refusals.
+//! The lines of refusals: of files, of their code, and of any analysis.
 
 ghost use Rattle.std.specs.Prelude.{◌≡◌, IfOk};
 ghost use Rattle.number_text.specs.Numerals.{dec, hex, hex8};
 ghost use Rattle.rv_decode.specs.Registers.{name_of_register};
 ghost use Rattle.elf_image.specs.declared.refusal.ElfRefusal.TheVariants.{NoCode};
 ghost use Rattle.flow_points.specs.declared.refusal.FlowRefusal.TheVariants.{NoInstruction, MisalignedTarget};
-ghost use Rattle.analyser_main.specs.Lines.{at_offset, at_address, valued, elf_line, flow_line, refused, track_line, too_long_line, not_yet_line, IsLineOf};
+ghost use Rattle.analyser_main.specs.Lines.{at_offset, at_address, valued, elf_line, flow_line, refused, too_long_line, IsLineOf};
 
-use crate::refusals::{Refusal, TrackRefusal};
+use crate::track_lines::track_line;
+use analyser_core::Refusal;
 use elf_image::ElfRefusal;
 use flow_points::FlowRefusal;
 use number_text::{push_dec, push_hex, push_hex8};
@@ -21,7 +22,6 @@ pub fn refusal_line(alloc: Global, refusal: Refusal) -> Result<Vec<u8>, AllocErr
     match refusal {
         Refusal::Elf(refusal) => elf_line(alloc, refusal),
         Refusal::Flow(refusal) => flow_line(alloc, refusal),
-        Refusal::NotYet(address) => not_yet_line(alloc, address),
         Refusal::Track(refusal) => track_line(alloc, refusal),
         Refusal::Memory => Err(AllocError),
     }
@@ -34,27 +34,8 @@ pub fn too_long_line(alloc: Global) -> Result<Vec<u8>, AllocError>
     Vec::from_slice(alloc, b"refused TooLong 16777216\n")
 }
 
-fn not_yet_line(alloc: Global, address: u64) -> Result<Vec<u8>, AllocError>
-    ensures { IfOk result (λ line. line.items ≡ not_yet_line address) }
-{
-    let mut line = Vec::from_slice(alloc, b"refused NotYet at ")?;
-    push_hex(&mut line, address)?;
-    line.extend_from_slice(b"\n")?;
-    Ok(line)
-}
-
-fn track_line(alloc: Global, refusal: TrackRefusal) -> Result<Vec<u8>, AllocError>
-    ensures { IfOk result (λ line. line.items ≡ track_line refusal) }
-{
-    match refusal {
-        TrackRefusal::Empty => Vec::from_slice(alloc, b"refused Empty\n"),
-        TrackRefusal::TooMany(limit) => list_line(alloc, b"TooMany", u64::from(limit)),
-        TrackRefusal::UnknownName(place) => list_line(alloc, b"UnknownName", place),
-        TrackRefusal::Repeated(place) => list_line(alloc, b"Repeated", place),
-    }
-}
-
-fn list_line(alloc: Global, name: &[u8], value: u64) -> Result<Vec<u8>, AllocError>
+/// The line of a refusal with one value.
+pub fn value_line(alloc: Global, name: &[u8], value: u64) -> Result<Vec<u8>, AllocError>
     ensures { IfOk result (λ line. line.items ≡ refused (valued name.now (dec value))) }
 {
     let mut line = Vec::from_slice(alloc, b"refused ")?;
@@ -144,7 +125,7 @@ fn flow_line(alloc: Global, refusal: FlowRefusal) -> Result<Vec<u8>, AllocError>
     ensures { IfOk result (λ line. line.items ≡ flow_line refusal) }
 {
     match refusal {
-        FlowRefusal::TooManyPoints(limit) => list_line(alloc, b"TooManyPoints", u64::from(limit)),
+        FlowRefusal::TooManyPoints(limit) => value_line(alloc, b"TooManyPoints", u64::from(limit)),
         FlowRefusal::OutsideCode(address) => address_line(alloc, b"OutsideCode", address),
         FlowRefusal::NoInstruction(address, word) => no_instruction_line(alloc, address, word),
         FlowRefusal::OddLink(address, register) => register_line(

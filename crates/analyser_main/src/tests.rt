@@ -2,21 +2,34 @@
 
 ghost use Rattle.std.specs.Prelude.{◌≢◌, ◌≤◌};
 
-use crate::affine::affine_main;
-use outside::{CleanFiles, CleanSink, DiskFiles, Files, MemFile, MemFiles, MemSink, StdSink};
+use crate::top_call::{affine_main, run_with};
+use outside::{CleanFiles, CleanSink, DiskFiles, Files, MemFile, MemFiles, MemSink, Sink, StdSink};
 use std::alloc::{AllocError, Global};
+use std::io::ErrorKind;
+use std::process::ExitCode;
 use std::test::Fail;
-use std::{env, fs, process};
+use std::{env, fs, io, process};
 
-/// Over files and a sink that never fail, no answer is a fault.
-fn affine_cleanly(
+/// Over files that never fail, no answer is a read fault, whatever the sink does.
+fn over_clean_files<K: Sink>(
     alloc: Global,
     words: &[String],
     files: &mut CleanFiles,
+    out: &mut K,
+) -> u8
+    ensures { result ≢ 3 }
+{
+    affine_main(alloc, words, files, out)
+}
+
+/// Over a sink that never fails, no answer is a write fault, whatever the files do.
+fn over_a_clean_sink<F: Files>(
+    alloc: Global,
+    words: &[String],
+    files: &mut F,
     out: &mut CleanSink,
 ) -> u8
-    ensures no_read_fault { result ≢ 3 }
-    ensures no_write_fault { result ≢ 4 }
+    ensures { result ≢ 4 }
 {
     affine_main(alloc, words, files, out)
 }
@@ -198,10 +211,65 @@ fn report_with(alloc: Global, list: &str, points: &[&str]) -> Result<Vec<u8>, Al
     Ok(report)
 }
 
+// The worked reports: calls, recursion with a slot, a loop, code behind a call that doesn't return.
+const RECURSION: &str =
+    "affine-report 1\ntrack sp,ra,0x10080:-8\nproc 0x10078\nat 0x10078\nnone\nat 0x1007c\nrel 1*ra -65660\nproc 0x10080\nat 0x10080\nrel 4611686018427387904*ra\nat 0x10084\nrel 4611686018427387904*ra\nat 0x10088\nrel 1*ra +4611686018427387903*0x10080:-8\nrel 4611686018427387904*0x10080:-8\nat 0x1008c\nrel 1*ra +4611686018427387903*0x10080:-8\nrel 4611686018427387904*0x10080:-8\nat 0x10090\nrel 4611686018427387904*ra\nrel 4611686018427387904*0x10080:-8\nat 0x10094\nrel 1*ra +4611686018427387903*0x10080:-8\nrel 4611686018427387904*0x10080:-8\nat 0x10098\nrel 1*ra +4611686018427387903*0x10080:-8\nrel 4611686018427387904*0x10080:-8\nend\n";
+
+const FRAME: &str =
+    "affine-report 1\ntrack sp,ra,s0,a0,0x1008c:-8,0x1008c:-16\nproc 0x10078\nat 0x10078\nnone\nat 0x1007c\nrel 1*sp -69752\nat 0x10080\nrel 1*sp -69632\nat 0x10084\nrel 1*sp -69632\nrel 1*ra -65664\nat 0x10088\nrel 1*sp -69632\nrel 1*ra -65672\nproc 0x1008c\nat 0x1008c\nrel 1*sp -69632\nrel 1*ra -65672\nat 0x10090\nrel 1*sp -69600\nrel 1*ra -65672\nat 0x10094\nrel 1*sp -69600\nrel 1*ra -65672\nrel 1*s0 -1*0x1008c:-16\nat 0x10098\nrel 1*sp -69600\nrel 1*ra -65672\nrel 1*s0 -1*0x1008c:-16\nrel 1*0x1008c:-8 -65672\nat 0x1009c\nrel 1*sp -69600\nrel 1*ra -65672\nrel 1*s0 -1*a0\nrel 1*0x1008c:-8 -65672\nat 0x100a0\nrel 1*sp -69600\nrel 1*ra -65696\nrel 4*s0 +4611686018427387903*a0\nrel 4611686018427387904*a0\nrel 1*0x1008c:-8 -65672\nat 0x100a4\nrel 1*sp -69600\nrel 1*ra -65696\nrel 1*s0 +3689348814741910323*a0\nrel 1*0x1008c:-8 -65672\nat 0x100a8\nrel 1*sp -69600\nrel 1*ra -65672\nrel 1*s0 +3689348814741910323*a0\nrel 1*0x1008c:-8 -65672\nat 0x100ac\nrel 1*sp -69600\nrel 1*ra -65672\nrel 1*s0 -1*0x1008c:-16\nrel 1*0x1008c:-8 -65672\nat 0x100b0\nrel 1*sp -69632\nrel 1*ra -65672\nrel 1*s0 -1*0x1008c:-16\nrel 1*0x1008c:-8 -65672\nproc 0x100b4\nat 0x100b4\nrel 1*sp -69600\nrel 1*ra -65696\nrel 1*s0 -1*a0\nat 0x100b8\nrel 1*sp -69600\nrel 1*ra -65696\nrel 4*s0 +4611686018427387903*a0\nrel 4611686018427387904*a0\nend\n";
+
+const LOOP: &str =
+    "affine-report 1\ntrack a0\nproc 0x10078\nat 0x10078\nnone\nat 0x1007c\nrel 2305843009213693952*a0\nat 0x10080\nrel 2305843009213693952*a0\nat 0x10084\nrel 2305843009213693952*a0\nend\n";
+
+const NO_RETURN: &str =
+    "affine-report 1\ntrack sp\nproc 0x10078\nat 0x10078\nnone\nat 0x1007c\nunreached\nproc 0x10080\nat 0x10080\nnone\nend\n";
+
+const PAIR: &str =
+    "affine-report 1\ntrack ra\nproc 0x10078\nat 0x10078\nnone\nat 0x1007c\nrel 1*ra -65656\nat 0x10080\nrel 1*ra -65664\nproc 0x10084\nat 0x10084\nrel 1*ra -65664\nend\n";
+
+const FRAME_CODE: [u32; 17] = [
+    0x00001117, 0xf8810113, 0x00000097, 0x00c080e7, 0x00100073, 0xfe010113, 0x00813823, 0x00113c23,
+    0x00050413, 0x018000ef, 0x00850533, 0x01813083, 0x01013403, 0x02010113, 0x00008067, 0x00251513,
+    0x00008067,
+];
+
+#[test]
+fn reports_of_code_with_calls(rt: HostRuntime) -> Result<(), Fail> {
+    let alloc = rt.alloc();
+    let cases: [(&str, &[u32], &str); 5] = [
+        // jal ra,8; ebreak; addi sp,sp,-16; sd ra,8(sp); beq a0,zero,8; jal ra,-12; ld ra,8(sp); addi sp,sp,16; ret
+        (
+            "sp,ra,0x10080:-8",
+            &[
+                0x008000EF, EBREAK, 0xFF010113, 0x00113423, 0x00050463, 0xFF5FF0EF, 0x00813083,
+                0x01010113, 0x00008067,
+            ],
+            RECURSION,
+        ),
+        ("sp,ra,s0,a0,0x1008c:-8,0x1008c:-16", &FRAME_CODE, FRAME),
+        // addi a0,zero,0; addi a0,a0,8; bne a0,a1,-4; ebreak
+        ("a0", &[0x00000513, 0x00850513, 0xFEB51EE3, EBREAK], LOOP),
+        // jal ra,8; ebreak; jal zero,0
+        ("sp", &[0x008000EF, EBREAK, 0x0000006F], NO_RETURN),
+        ("ra", &CALL, PAIR),
+    ];
+    for (list, code, report) in cases {
+        let mut words = words_of(alloc, "analyse f --track")?;
+        words.push(String::from_str(alloc, list)?)?;
+        let mut files = one_file(alloc, small_file(alloc, code)?, 4096, 0)?;
+        let mut out = MemSink::with_capacity(alloc, 2000, 2000, Vec::new(alloc))
+            .ok()
+            .ok_or("memory")?;
+        assert_eq!(rt; affine_main(alloc, &words, &mut files, &mut out), 0);
+        assert_eq!(rt; out.written.as_slice(), report.as_bytes());
+    }
+    Ok(())
+}
+
 #[test]
 fn orders_get_their_texts(rt: HostRuntime) -> Result<(), Fail> {
     let alloc = rt.alloc();
-    let cases: [(&str, usize, u8, &str); 21] = [
+    let cases: [(&str, usize, u8, &str); 24] = [
         ("analyse f --track x10", 128, 0, REPORT),
         ("list f", 128, 0, LIST),
         ("analyse f --track ", 128, 1, "refused Empty\n"),
@@ -221,10 +289,28 @@ fn orders_get_their_texts(rt: HostRuntime) -> Result<(), Fail> {
         ),
         ("analyse f --track ,", 128, 1, "refused UnknownName 1\n"),
         (
-            "analyse f --track 0x10078:-8",
+            "analyse f --track a0,0x10078:-12",
             128,
             1,
-            "refused NotYet at 0x0\n",
+            "refused BadSlot 2\n",
+        ),
+        (
+            "analyse f --track 0x10078:-2056",
+            128,
+            1,
+            "refused BadSlot 1\n",
+        ),
+        (
+            "analyse f --track 0x9999:-8",
+            128,
+            1,
+            "refused NoSuchProcedure 1\n",
+        ),
+        (
+            "analyse f --track main:-8",
+            128,
+            1,
+            "refused UnknownName 1\n",
         ),
         (
             "analyse f --track a0",
@@ -309,17 +395,6 @@ fn flow_of_files(rt: HostRuntime) -> Result<(), Fail> {
         assert_eq!(rt; answer, status, "{text}");
         assert_eq!(rt; written.as_slice(), text.as_bytes(), "{text}");
     }
-    let (answer, written) = answer_to(
-        alloc,
-        "analyse f --track ra",
-        small_file(alloc, &CALL)?,
-        4096,
-    )?;
-    assert_eq!(rt; answer, 1);
-    assert_eq!(rt;
-        written.as_slice(),
-        b"refused NotYet at 0x1007c\n".as_slice()
-    );
     Ok(())
 }
 
@@ -357,8 +432,19 @@ fn faults_have_their_status(rt: HostRuntime) -> Result<(), Fail> {
     let mut none = CleanFiles {
         files: Vec::new(alloc),
     };
-    assert_eq!(rt; affine_cleanly(alloc, &[], &mut none, &mut sink), 2);
-    assert_eq!(rt; sink.taken, 43);
+    assert_eq!(rt; over_clean_files(alloc, &[], &mut none, &mut sink), 2);
+    assert_eq!(rt; over_a_clean_sink(alloc, &[], &mut none, &mut sink), 2);
+    assert_eq!(rt; sink.taken, 86);
+    // What can't be had of the arguments: no memory for them, or no text.
+    for (kind, status, taken) in [
+        (ErrorKind::OutOfMemory, 5, 100),
+        (ErrorKind::InvalidData, 2, 143),
+    ] {
+        let words: io::Result<Vec<String>> = Err(io::Error::from(kind));
+        let code = run_with(alloc, words, &mut none, &mut sink);
+        assert_eq!(rt; code, ExitCode::from(status));
+        assert_eq!(rt; sink.taken, taken);
+    }
     Ok(())
 }
 

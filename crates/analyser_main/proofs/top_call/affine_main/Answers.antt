@@ -1,0 +1,15 @@
+use Rattle.std.proofs.Common.{refl}
+use Rattle.analyser_main.specs.Answers.{answered}
+use Rattle.analyser_main.proofs.RepliesGiven.{reply_ends}
+use Rattle.analyser_main.proofs.top_call.affine_main.Goals as goal
+
+pub returns-in-Usage-clause-carried_out : goal.returns-in-Usage-clause-carried_out
+returns-in-Usage-clause-carried_out g c = rw c.in-Usage.ensures (answered _ 2 _ (record { status_is = refl; text_is = refl }) c.say.ensures.said)
+
+pub returns-in-Analyse-clause-carried_out : goal.returns-in-Analyse-clause-carried_out
+returns-in-Analyse-clause-carried_out g c =
+    rw c.in-Analyse.ensures (reply_ends _ _ _ c.reply_to_analyse.result _ c.reply_to_analyse.ensures c.say_reply.ensures.said)
+
+pub returns-in-ListCode-clause-carried_out : goal.returns-in-ListCode-clause-carried_out
+returns-in-ListCode-clause-carried_out g c =
+    rw c.in-ListCode.ensures (reply_ends _ _ _ c.reply_to_list.result _ c.reply_to_list.ensures c.say_reply-in-ListCode.ensures.said)

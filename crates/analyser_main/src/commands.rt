@@ -1,0 +1,51 @@
+//! The order that arguments are.
+
+ghost use Rattle.std.specs.Prelude.{◌≡◌, [], ◌∷◌};
+ghost use Rattle.analyser_main.specs.Orders.{texts_of, is_operand, order_of};
+ghost use Rattle.analyser_main.specs.OrdersRead.{IsOrder};
+
+use crate::Order;
+
+/// The order that the arguments are.
+pub fn read_order(words: &[String]) -> Order<'_>
+    ensures { IsOrder result (order_of (texts_of words.now)) }
+{
+    match words {
+        [command, file, option, list] => {
+            analyse_order(
+                command.as_str(),
+                file.as_str(),
+                option.as_str(),
+                list.as_str(),
+            )
+        }
+        [command, file] => list_order(command.as_str(), file.as_str()),
+        _ => Order::Usage,
+    }
+}
+
+fn analyse_order<'a>(command: &str, file: &'a str, option: &str, list: &'a str) -> Order<'a>
+    ensures { IsOrder result (order_of (command.now ∷ file.now ∷ option.now ∷ list.now ∷ [])) }
+{
+    if command == "analyse" && option == "--track" && is_operand(file) && is_operand(list) {
+        Order::Analyse { file, list }
+    } else {
+        Order::Usage
+    }
+}
+
+fn list_order<'a>(command: &str, file: &'a str) -> Order<'a>
+    ensures { IsOrder result (order_of (command.now ∷ file.now ∷ [])) }
+{
+    if command == "list" && is_operand(file) {
+        Order::ListCode { file }
+    } else {
+        Order::Usage
+    }
+}
+
+fn is_operand(word: &str) -> bool
+    ensures { result ≡ is_operand word.now }
+{
+    !word.starts_with('-')
+}

@@ -1,0 +1,87 @@
+//! The top call.
+
+ghost use Rattle.std.specs.Prelude.{◌≡◌, ◌≢◌, ◌<◌, IfOk, IfErr};
+ghost use Rattle.std.specs.Process.{exit_status};
+ghost use Rattle.outside.specs.Counts.{HasRisen};
+ghost use Rattle.analyser_main.specs.Orders.{Usage, texts_of, order_of};
+ghost use Rattle.analyser_main.specs.Answers.{call, IsUsage, IsCarriedOut, Ends, Says, no_memory_text};
+ghost use Rattle.analyser_main.specs.Replies.{SaysReply};
+
+use crate::analyse_command::reply_to_analyse;
+use crate::commands::read_order;
+use crate::list_command::reply_to_list;
+use crate::{Order, Reply};
+use outside::{Files, Sink, write_all};
+use std::alloc::Global;
+use std::io;
+use std::io::ErrorKind;
+use std::process::ExitCode;
+
+const USAGE: &[u8] = b"usage:\nanalyse FILE --track LIST\nlist FILE\n";
+
+const READ_FAULT: &[u8] = b"read fault\n";
+
+const OUT_OF_MEMORY: &[u8] = b"out of memory\n";
+
+/// Carries out the order of the arguments, those after the program's name: reads the file that it
+/// names, puts its one text into the sink, and gives the exit status.
+pub fn affine_main<F: Files, K: Sink>(
+    alloc: Global,
+    words: &[String],
+    files: &mut F,
+    out: &mut K,
+) -> u8
+    ensures carried_out { IsCarriedOut (order_of (texts_of words.now))
+        (call F.contents F.faults K.written K.faults files.old files.new out.old out.new) result }
+    // Where the sink's count rose, the answer says so.
+    ensures counted { K.faults out.old < K.faults out.new → result ≡ 4 }
+{
+    match read_order(words) {
+        Order::Usage => say(out, 2, USAGE),
+        Order::Analyse { file, list } => say_reply(out, reply_to_analyse(alloc, files, file, list)),
+        Order::ListCode { file } => say_reply(out, reply_to_list(alloc, files, file)),
+    }
+}
+
+/// Carries out the order of the arguments, where they could be had, and ends with its status. An
+/// argument that is no UTF-8 text makes no order.
+pub fn run_with<F: Files, K: Sink>(
+    alloc: Global,
+    words: io::Result<Vec<String>>,
+    files: &mut F,
+    out: &mut K,
+) -> ExitCode
+    ensures given { IfOk words (λ w. IsCarriedOut (order_of (texts_of w.items))
+        (call F.contents F.faults K.written K.faults files.old files.new out.old out.new) (exit_status result)) }
+    ensures counted { K.faults out.old < K.faults out.new → exit_status result ≡ 4 }
+{
+    let status = match words {
+        Ok(words) => affine_main(alloc, &words, files, out),
+        Err(error) if error.kind() == ErrorKind::OutOfMemory => say(out, 5, OUT_OF_MEMORY),
+        Err(_) => say(out, 2, USAGE),
+    };
+    ExitCode::from(status)
+}
+
+// Puts the text of a reply, and gives its status, or 4 for a write fault in its place.
+fn say_reply<K: Sink>(out: &mut K, reply: Reply) -> u8
+    ensures said { SaysReply reply (K.written out.old) (K.written out.new) (HasRisen (K.faults out.old) (K.faults out.new)) result }
+    ensures counted { K.faults out.old < K.faults out.new → result ≡ 4 }
+{
+    match reply {
+        Reply::Whole { status, text } => say(out, status, &text),
+        Reply::ReadFault => say(out, 3, READ_FAULT),
+        Reply::OutOfMemory => say(out, 5, OUT_OF_MEMORY),
+    }
+}
+
+// Puts the text, and gives the status, or 4 for a write fault in its place.
+fn say<K: Sink>(out: &mut K, status: u8, text: &[u8]) -> u8
+    ensures said { Says (K.written out.old) (K.written out.new) status text.now (HasRisen (K.faults out.old) (K.faults out.new)) result }
+    ensures counted { K.faults out.old < K.faults out.new → result ≡ 4 }
+{
+    match write_all(out, text) {
+        Ok(()) => status,
+        Err(_) => 4,
+    }
+}

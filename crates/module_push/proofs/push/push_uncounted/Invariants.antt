@@ -1,4 +1,0 @@
-use Rattle.module_push.proofs.push.push_uncounted.Given as goal
-
-abbrev pub ghosts-push_from : goal.ghosts-push_from
-ghosts-push_from a = record { name = a.blank.name; parts = a.blank.parts }

@@ -1,4 +1,0 @@
-use Rattle.module_push.proofs.start.start_basis.Given as goal
-
-abbrev pub ghosts-start_from : goal.ghosts-start_from
-ghosts-start_from a = record { name = a.blank.name; parts = a.blank.parts }
