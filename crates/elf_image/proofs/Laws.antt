@@ -1,4 +1,4 @@
--- What each image keeps. Crates above may cite these.
+-- What each image keeps, and numbers in memory by their bytes. Crates above may cite these.
 use Rattle.std.proofs.Common.{◌≡◌, ℕ, ◌+◌, ◌<◌, ◌≤◌, ◌%◌, Bool, true, false, List, Option, None, Some, option_map, is_some, length, get_or, All, AllPairs, Contains, IfSome, IsSome, find, refl, arith, subst, sym, ap}
 use Rattle.std.proofs.lemmas.List.Elements.{All-contains, Contains-get_or}
 use Rattle.elf_image.specs.Segments.{IsLoadable, holds, holds_code, shares_address, byte_in, word_in, segment_with, code_segment}
@@ -9,6 +9,8 @@ use Rattle.elf_image.proofs.Accepted.{segments_few, segments_loadable, segments_
 use Rattle.elf_image.proofs.Apart.{one_holder}
 use Rattle.elf_image.proofs.Found.{found_has, found_passes}
 use Rattle.elf_image.proofs.Held.{code_held, code_ends, both_hold}
+
+pub use Rattle.elf_image.proofs.BytesRead.{read_1, read_2, read_4, read_8}
 
 pub few : (image : Image) → length image.segments ≤ 64
 few image = rw image.keeps (segments_few image.file image.accepted)

@@ -44,7 +44,7 @@ impl Segment {
     }
 
     /// Its addresses.
-    pub(crate) fn range(&self) -> Range
+    pub fn range(&self) -> Range
         ensures { result ≡ range_of self.now }
     {
         Range {

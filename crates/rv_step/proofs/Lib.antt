@@ -1,0 +1,4 @@
+pub mod BytesStored
+pub mod ImageLoaded
+pub mod LowWords
+pub mod OneStep

@@ -1,0 +1,11 @@
+pub mod Words
+pub mod Results
+pub mod Harts
+pub mod Effects
+pub mod Steps
+pub mod Runs
+pub mod Pages
+pub mod Machines
+pub mod Records
+pub mod Own
+pub mod Loads

@@ -1,0 +1,2 @@
+-- What follows from the tables. Crates above may cite it.
+pub use Rattle.rvc_expand.proofs.OneMeaning.{one_meaning}
