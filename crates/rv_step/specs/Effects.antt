@@ -40,6 +40,6 @@ pub record Calls (m : Hart) (next : ℕ) (n : Hart) : Type 0 where
   pub a0 : ℕ
   pub a0_fits : a0 < 2 ^ 64
   pub registers : n.registers ≡ written m.registers 10 a0
-  pub bytes : (b : ℕ) → n.memory b < 2 ^ 8
+  pub bytes : (b : ℕ) → b < 2 ^ 64 → n.memory b < 2 ^ 8
   pub code : n.code ≡ m.code
   pub unit : n.unit ≡ m.unit

@@ -29,7 +29,7 @@ pub record IsHart (m : Hart) : Type 0 where
   pub registers : length m.registers ≡ 32
   pub words : All (λ w. w < 2 ^ 64) m.registers
   pub zero_is : x m 0 ≡ 0
-  pub bytes : (a : ℕ) → m.memory a < 2 ^ 8
+  pub bytes : (a : ℕ) → a < 2 ^ 64 → m.memory a < 2 ^ 8
   pub units : (m.unit ≡ 2) ⊎ (m.unit ≡ 4)
 
 abbrev pub fetched : Hart → Option Fetched

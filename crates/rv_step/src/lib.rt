@@ -16,6 +16,7 @@
 mod alu;
 mod division;
 mod execute;
+pub mod laws;
 mod load;
 mod machine;
 mod pages;

@@ -10,7 +10,7 @@ returns-clause-starts c = record {
     registers = c.zero_first.ensures.count;
     words = c.zero_first.ensures.words;
     zero_is = c.zero_first.ensures.zero;
-    bytes = λ a. let b = loaded_is_byte c.args.image.now c.known.ensures.bytes a in let e = c.in-Ok.ensures a in omega arith;
+    bytes = λ a small. let b = loaded_is_byte c.args.image.now c.known.ensures.bytes a in let e = c.in-Ok.ensures a in omega arith;
     units = c.known.ensures.units;
   };
   entry = refl;
