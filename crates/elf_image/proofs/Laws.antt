@@ -9,7 +9,6 @@ use Rattle.elf_image.proofs.Accepted.{segments_few, segments_loadable, segments_
 use Rattle.elf_image.proofs.Apart.{one_holder}
 use Rattle.elf_image.proofs.Found.{found_has, found_passes}
 use Rattle.elf_image.proofs.Held.{code_held, code_ends, both_hold}
-
 pub use Rattle.elf_image.proofs.BytesRead.{read_1, read_2, read_4, read_8}
 
 pub few : (image : Image) → length image.segments ≤ 64
