@@ -7,16 +7,17 @@ TRACK = sp,ra,s0,a0$(if $(filter $(EXAMPLE),$(FILE)),$(COMMA)$(SLOTS))
 COMMA = ,
 export FILE TRACK
 
-.PHONY: help demo analyse list build test
+.PHONY: help demo analyse cert list build test
 
 help:
 	@echo 'make demo                       the report of $(EXAMPLE)    under a minute'
 	@echo 'make analyse FILE=F TRACK=LIST  the report of F for the names of LIST          under a minute'
+	@echo 'make cert FILE=F TRACK=LIST     which registers its procedures give back        under a minute'
 	@echo 'make list FILE=F                the code of F that can be reached              under a minute'
 	@echo 'make build                      proves and builds the program                  half an hour or more where nothing is kept'
 	@echo 'make test                       the whole test, rt ci                          an hour or more where nothing is kept'
 	@echo
-	@echo 'demo, analyse and list build anew and prove nothing; rt ci proves the same sources.'
+	@echo 'demo, analyse, cert and list build anew and prove nothing; rt ci proves the same sources.'
 	@echo 'make build leaves the program at $(PROGRAM); run it as'
 	@echo '  $(PROGRAM) analyse FILE --track LIST'
 
@@ -36,6 +37,9 @@ demo: analyse
 
 analyse:
 	$(call unproved,analyse file.elf --track "$$TRACK")
+
+cert:
+	$(call unproved,cert file.elf --track "$$TRACK")
 
 list:
 	$(call unproved,list file.elf)

@@ -1,3 +1,5 @@
 mod RelationsTold
 mod PointsTold
+mod LinesRead
+mod WordsTold
 mod Worked

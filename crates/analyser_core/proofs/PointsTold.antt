@@ -1,5 +1,5 @@
 -- The points of a report, each with the relations at its point.
-use Rattle.std.proofs.Common.{◌≡◌, ℕ, zero, suc, ◌+◌, ◌<◌, ◌⊎◌, ◌∙◌, inl, inr, List, [], ◌∷◌, ◌++◌, length, get_or, slice_get, All, Option, Some, None, refl, ap, sym, subst, length-append, arith}
+use Rattle.std.proofs.Common.{◌≡◌, ℕ, zero, suc, ◌+◌, ◌⊎◌, ◌∙◌, inl, inr, List, [], ◌∷◌, ◌++◌, length, get_or, slice_get, All, Option, Some, None, refl, ap, sym, subst, length-append, arith}
 use Rattle.std.specs.Prelude.{IsSomeAnd, IsTrue, ◌↔◌}
 use Rattle.row_modules.specs.Positions.{has}
 use Rattle.affine_prog.specs.Programs.{owner_of, visible_in}

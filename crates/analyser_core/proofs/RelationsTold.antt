@@ -1,5 +1,5 @@
 -- The relations at a node, from a basis of the module of the states that reach it.
-use Rattle.std.proofs.Common.{◌≡◌, ◌≢◌, ℕ, ◌<◌, inl, inr, List, [], ◌∷◌, Contains, get_or, replicate, ap, ◌∙◌, arith}
+use Rattle.std.proofs.Common.{◌≢◌, ℕ, ◌<◌, inl, inr, List, [], ◌∷◌, Contains, get_or, replicate, ap, ◌∙◌, arith}
 use Rattle.std.specs.Prelude.{IsTrue}
 use Rattle.std.proofs.lemmas.List.Elements.{Contains-get_or}
 use Rattle.word_rows.specs.Rows.{lead, IsState}

@@ -1,12 +1,11 @@
 -- The work of an analysis: its bound, and the rows of bases of the states.
-use Rattle.std.proofs.Common.{◌≡◌, ℕ, zero, suc, ◌+◌, ◌*◌, ◌<◌, ◌≤◌, List, [], ◌∷◌, All, Contains, length, refl, sym, ap₂, ◌∙◌, arith}
+use Rattle.std.proofs.Common.{◌≡◌, ℕ, suc, ◌+◌, ◌*◌, ◌<◌, ◌≤◌, List, [], ◌∷◌, All, length, refl, sym, ap₂, ◌∙◌, arith}
 use Rattle.std.proofs.lemmas.List.Sums.{sum_by-cons}
 use Rattle.std.specs.Prelude.{sum_by}
-use Rattle.row_modules.specs.Modules.{SameModule}
 use Rattle.row_modules.specs.Bases.{IsLeadingBasis}
 use Rattle.lead_basis.proofs.Laws.{as_many_rows, turned, transitive}
 use Rattle.affine_prog.specs.declared.Program.{Program}
-use Rattle.affine_prog.specs.Spans.{rows_at, IsStateAt, AreReached}
+use Rattle.affine_prog.specs.Spans.{rows_at, AreReached}
 use Rattle.flow_points.specs.PointLists.{FlowPoints}
 use Rattle.affine_lift.specs.Lifting.{IsLifted}
 use Rattle.report_text.specs.declared.names.Name.{Name}

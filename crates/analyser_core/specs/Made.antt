@@ -1,9 +1,9 @@
 -- An analysis as it is made, for points and names that are accepted. No public contract cites these words.
 --
---   IsMade points names before after report
---                             the report is that of the program that is lifted from them, and the counter rose by at least
---                             the number of rows of bases of the states at all nodes
---   IsMadeOf points names report
+--   IsMade points names before after report certs
+--                             the report and the certificates are those of the program that is lifted from them, and the counter
+--                             rose by at least the number of rows of bases of the states at all nodes
+--   IsMadeOf points names report certs
 --                             so it is, whatever the counter did
 --   HasWorked points names before after
 --                             the counter stayed, or there is such a program and it rose by no more than the bound
@@ -16,19 +16,20 @@ use Rattle.affine_lift.specs.Lifting.{IsLifted}
 use Rattle.report_text.specs.declared.names.Name.{Name}
 use Rattle.report_text.specs.declared.reports.Report.{Report}
 use Rattle.analyser_core.specs.Reports.{IsReportOf}
+use Rattle.analyser_core.specs.declared.cert_line.CertLine.{CertLine}
 use Rattle.analyser_core.specs.Work.{work_bound, nodes_of}
 
-pub record IsMade (points : FlowPoints) (names : List Name) (before after : ℕ) (report : Report) : Type 0 where
+pub record IsMade (points : FlowPoints) (names : List Name) (before after : ℕ) (report : Report) (certs : List CertLine) : Type 0 where
   pub program : Program
   pub lifted : IsLifted points names program
-  pub is_report : IsReportOf program points names report
+  pub is_report : IsReportOf program points names report certs
   pub rows : (lists : List (List (List ℕ))) → AreReached program lists → All (IsLeadingBasis 17) lists
       → before + sum_by length lists ≤ after
 
-pub record IsMadeOf (points : FlowPoints) (names : List Name) (report : Report) : Type 0 where
+pub record IsMadeOf (points : FlowPoints) (names : List Name) (report : Report) (certs : List CertLine) : Type 0 where
   pub program : Program
   pub lifted : IsLifted points names program
-  pub is_report : IsReportOf program points names report
+  pub is_report : IsReportOf program points names report certs
 
 pub data HasWorked (points : FlowPoints) (names : List Name) (before after : ℕ) : Type 0 where
   none : after ≡ before → HasWorked points names before after

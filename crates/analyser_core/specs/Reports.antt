@@ -3,15 +3,16 @@
 --   TellsState program u state          the state says that no open path comes to node u, or has the rows that generate the
 --                                       relations which hold there
 --   Tells program code u point          the point is that of the code, and tells the relations that hold at node u
---   IsReportOf program points names report
---                                       the report is of version 1, has these names, and tells of each of the points in turn
---                                       what holds at its node
+--   IsReportOf program points names report certs
+--                                       these are the certificates of the program; and the report is of version 2, has these
+--                                       names, tells these certificates, and of each of the points in turn what holds at its node
 --   IsLiftedFrom bytes list points names program
 --                                       the file's bytes and the list are accepted, with these points and names, and this is
 --                                       the program that is lifted from them
---   IsReportOver bytes list report      so they are, and the report is that of the program
+--   IsReportOver bytes list report certs
+--                                       so they are, and the report and the certificates are those of the program
 -- A report keeps that the rows of each of its points are reduced, so that there is one such report.
-use Rattle.std.specs.Prelude.{◌≡◌, ℕ, List, [], Some, length, slice_get}
+use Rattle.std.specs.Prelude.{◌≡◌, ℕ, List, Some, map, length, slice_get}
 use Rattle.row_modules.specs.Modules.{Generates}
 use Rattle.flow_points.specs.PointLists.{FlowPoints}
 use Rattle.flow_points.specs.declared.code_points.CodePoint.{CodePoint}
@@ -24,6 +25,8 @@ use Rattle.report_text.specs.declared.points.PointState.{PointState}
 use Rattle.report_text.specs.declared.points.PointState.TheVariants.{Unreached, Rows}
 use Rattle.report_text.specs.declared.reports.Report.{Report}
 use Rattle.analyser_core.specs.Accepted.{IsAcceptedAs}
+use Rattle.analyser_core.specs.Certified.{AreCertificatesOf, told_in, told_of}
+use Rattle.analyser_core.specs.declared.cert_line.CertLine.{CertLine}
 
 abbrev pub TellsState : Program → ℕ → PointState → Type 0
 TellsState program u Unreached = IsReached program u → ⊥
@@ -34,9 +37,10 @@ pub record Tells (program : Program) (code : CodePoint) (u : ℕ) (point : Point
   pub address : point.address ≡ code.point.address
   pub state : TellsState program u point.state
 
-pub record IsReportOf (program : Program) (points : FlowPoints) (names : List Name) (report : Report) : Type 0 where
-  pub version_is : report.version ≡ 1
-  pub no_certs : report.certs ≡ []
+pub record IsReportOf (program : Program) (points : FlowPoints) (names : List Name) (report : Report) (certs : List CertLine) : Type 0 where
+  pub version_is : report.version ≡ 2
+  pub certified : AreCertificatesOf program points names certs
+  pub words : map told_of report.certs ≡ map told_in certs
   pub names_are : report.tracked.names ≡ names
   pub count : length report.points ≡ length points.points
   pub told : (u : ℕ) (code : CodePoint) (point : PointRows) → slice_get points.points u ≡ Some code →
@@ -46,9 +50,9 @@ pub record IsLiftedFrom (bytes list : List ℕ) (points : FlowPoints) (names : L
   pub accepted : IsAcceptedAs bytes list points names
   pub lifted : IsLifted points names program
 
-pub record IsReportOver (bytes list : List ℕ) (report : Report) : Type 0 where
+pub record IsReportOver (bytes list : List ℕ) (report : Report) (certs : List CertLine) : Type 0 where
   pub points : FlowPoints
   pub names : List Name
   pub program : Program
   pub lifted : IsLiftedFrom bytes list points names program
-  pub is_report : IsReportOf program points names report
+  pub is_report : IsReportOf program points names report certs

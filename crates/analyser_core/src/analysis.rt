@@ -8,6 +8,8 @@ ghost use Rattle.analyser_core.specs.Made.{IsMade, IsMadeOf, HasWorked};
 
 use crate::Refusal;
 use crate::accept::accepted;
+use crate::cert_line::CertLine;
+use crate::certify::{certify, words_of};
 use crate::tell::{known_states, told};
 use affine_lift::lift;
 use call_summaries::exits;
@@ -21,10 +23,11 @@ use std::alloc::Global;
 use std::marker::Brand;
 use std::sync::ledger::{Blank, Ledger};
 
-/// What an analysis found.
+/// What an analysis found: the report, and the certificates that it tells.
 #[derive(Debug, Drop)]
 pub struct Analysis {
     pub report: Report,
+    pub certs: Items<CertLine>,
 }
 
 /// The analysis of a file's bytes for the names of a list; or the first cause why there is none. The
@@ -35,7 +38,7 @@ pub fn analyse<L: Ledger>(
     track: &str,
     steps: &mut Steps<L>,
 ) -> Result<Analysis, Refusal>
-    ensures report { MatchResult result (λ a. IsReportOver bytes.now track.now a.report) (IsRefusal bytes.now track.now) }
+    ensures report { MatchResult result (λ a. IsReportOver bytes.now track.now a.report a.certs) (IsRefusal bytes.now track.now) }
     ensures bounded { IsWithinWork bytes.now track.now steps.old steps.new }
     ensures counts_states { IfOk result (λ a. CountsStates bytes.now track.now steps.old steps.new) }
 {
@@ -48,7 +51,7 @@ pub fn analyse<L: Ledger>(
 
 /// The same, for a caller that counts nothing.
 pub fn analyse_uncounted(alloc: Global, bytes: &[u8], track: &str) -> Result<Analysis, Refusal>
-    ensures { MatchResult result (λ a. IsReportOver bytes.now track.now a.report) (IsRefusal bytes.now track.now) }
+    ensures { MatchResult result (λ a. IsReportOver bytes.now track.now a.report a.certs) (IsRefusal bytes.now track.now) }
 {
     let (points, tracked) = match accepted(alloc, bytes, track) {
         Ok(accepted) => accepted,
@@ -67,7 +70,7 @@ fn analysis_from<L: Ledger>(
     requires name { blank.name ≡ L.name }
     requires parts { blank.parts ≡ L.parts }
     requires some { 0 < blank.parts }
-    ensures made { IfOk result (λ a. IsMadeOf points.now tracked.names a.report) }
+    ensures made { IfOk result (λ a. IsMadeOf points.now tracked.names a.report a.certs) }
     ensures refusal { IfErr result (λ refusal. refusal ≡ Refusal.Memory) }
 {
     let mut steps = Steps::<L>::new(blank);
@@ -81,7 +84,7 @@ fn analysis_of<L: Ledger>(
     tracked: Tracked,
     steps: &mut Steps<L>,
 ) -> Result<Analysis, Refusal>
-    ensures made { IfOk result (λ a. IsMade points.now tracked.names steps.old steps.new a.report) }
+    ensures made { IfOk result (λ a. IsMade points.now tracked.names steps.old steps.new a.report a.certs) }
     ensures refusal { IfErr result (λ refusal. refusal ≡ Refusal.Memory) }
     ensures worked { HasWorked points.now tracked.names steps.old steps.new }
 {
@@ -91,13 +94,16 @@ fn analysis_of<L: Ledger>(
     let reached = reach_by_exits(alloc, &program, exits.bases(), steps)?;
     known_states(&reached, program.nodes);
     points.known();
+    let certs = certify(alloc, points, &tracked, &program, exits.bases())?;
+    let words = words_of(alloc, certs.as_slice())?;
     let points = told(alloc, points, &tracked, &program, &reached)?;
     Ok(Analysis {
         report: Report {
-            version: 1,
+            version: 2,
             tracked,
-            certs: Items::new(alloc),
+            certs: words,
             points,
         },
+        certs,
     })
 }

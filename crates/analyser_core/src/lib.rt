@@ -2,8 +2,9 @@
 //!
 //! [`analyse`] accepts the file, its code and the list, or tells the first cause for which it doesn't;
 //! lifts the code to a program; and gives the report of which each point's rows generate exactly the
-//! affine relations that hold there after every path of that program. What holds is defined over paths
-//! alone (`affine_prog`), and what the program is, over walks and instructions (`affine_lift`).
+//! affine relations that hold there after every path of that program, and that certifies of each procedure
+//! which of sp, ra and s0 to s11 it leaves as they were. What holds is defined over paths alone
+//! (`affine_prog`), and what the program is, over walks and instructions (`affine_lift`).
 //! [`image_of`] and [`points_of`] are its first steps. Texts, files and commands are left to others.
 //!
 //! ```text
@@ -13,9 +14,12 @@
 
 mod accept;
 mod analysis;
+mod cert_line;
+mod certify;
 mod refusal;
 mod tell;
 
 pub use accept::{image_of, points_of};
 pub use analysis::{Analysis, analyse, analyse_uncounted};
+pub use cert_line::CertLine;
 pub use refusal::Refusal;

@@ -1,4 +1,5 @@
 mod PointsListed
 mod RepliesGiven
 mod TooLong
+mod Refused
 mod NoFault

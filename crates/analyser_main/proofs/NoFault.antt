@@ -1,8 +1,11 @@
 -- Calls over files, or over a sink, whose counts don't rise.
 use Rattle.std.proofs.Common.{◌≡◌, ◌≢◌, ℕ, ◌<◌, inl, inr, List, Option, Some, None, arith}
 use Rattle.outside.specs.Counts.{HasRisen}
-use Rattle.analyser_main.specs.Answers.{Call, IsRefused, too_long, no_image, bad_flow, IsAnswer, refused, no_list, analysed, IsListing, listed, IsAnswerOver, IsUsage, Says, whole, cut, Ends, answered, read_fault, no_memory, IsCarriedOut}
-use Rattle.analyser_main.specs.Orders.{Order, Usage, Analyse, ListCode}
+use Rattle.analyser_main.specs.Answers.{Call, IsRefused, too_long, no_image, bad_flow, report_text, IsAnswer, refused, no_list, analysed, IsListing, listed, IsAnswerOver, IsUsage, Says, whole, cut, Ends, answered, read_fault, no_memory, IsCarriedOut}
+use Rattle.analyser_main.specs.Orders.{Order, Usage, Analyse, Certify, ListCode}
+use Rattle.analyser_main.specs.CertsText.{certs_text}
+use Rattle.analyser_core.specs.declared.cert_line.CertLine.{CertLine}
+use Rattle.report_text.specs.declared.reports.Report.{Report}
 
 pub still_0 : HasRisen 0 0 → ⊥
 still_0 (inl above) = omega arith
@@ -27,10 +30,10 @@ refused_status bytes status text (bad_flow status' text' image refusal short of 
 abbrev IsLow : (ℕ → List ℕ → Type 0) → Type 0
 IsLow Is = (status : ℕ) (text : List ℕ) → Is status text → status < 3
 
-answer_low : (list bytes : List ℕ) → IsLow (IsAnswer list bytes)
-answer_low list bytes status text (refused status' text' is) = let low = refused_status bytes status text is in omega arith
-answer_low list bytes status text (no_list status' text' image points refusal short of has why is line) = omega arith
-answer_low list bytes status text (analysed status' text' report short what is line) = omega arith
+answer_low : (told : Report → List CertLine → List ℕ) (list bytes : List ℕ) → IsLow (IsAnswer told list bytes)
+answer_low told list bytes status text (refused status' text' is) = let low = refused_status bytes status text is in omega arith
+answer_low told list bytes status text (no_list status' text' image points refusal short of has why is line) = omega arith
+answer_low told list bytes status text (analysed status' text' report certs short what is line) = omega arith
 
 listing_low : (bytes : List ℕ) → IsLow (IsListing bytes)
 listing_low bytes status text (refused status' text' is) = let low = refused_status bytes status text is in omega arith
@@ -59,11 +62,17 @@ no_write Is Rose c answer low still (no_memory answer' said) = said_whole _ _ 5 
 pub no_read_fault : (order : Order) (c : Call) (answer : ℕ) → ((file : List ℕ) → HasRisen (c.faults_before file) (c.faults_after file) → ⊥) →
     IsCarriedOut order c answer → answer ≢ 3
 no_read_fault Usage c answer still is = no_read IsUsage ⊥ c answer usage_low (λ no. no) is
-no_read_fault (Analyse file list) c answer still is = no_read _ _ c answer (over_low (c.contents file) (IsAnswer list) (answer_low list)) (still file) is
+no_read_fault (Analyse file list) c answer still is =
+    no_read _ _ c answer (over_low (c.contents file) (IsAnswer report_text list) (answer_low report_text list)) (still file) is
+no_read_fault (Certify file list) c answer still is =
+    no_read _ _ c answer (over_low (c.contents file) (IsAnswer certs_text list) (answer_low certs_text list)) (still file) is
 no_read_fault (ListCode file) c answer still is = no_read _ _ c answer (over_low (c.contents file) IsListing listing_low) (still file) is
 
 -- where the sink's count doesn't
 pub no_write_fault : (order : Order) (c : Call) (answer : ℕ) → (HasRisen c.sink_before c.sink_after → ⊥) → IsCarriedOut order c answer → answer ≢ 4
 no_write_fault Usage c answer still is = no_write IsUsage ⊥ c answer usage_low still is
-no_write_fault (Analyse file list) c answer still is = no_write _ _ c answer (over_low (c.contents file) (IsAnswer list) (answer_low list)) still is
+no_write_fault (Analyse file list) c answer still is =
+    no_write _ _ c answer (over_low (c.contents file) (IsAnswer report_text list) (answer_low report_text list)) still is
+no_write_fault (Certify file list) c answer still is =
+    no_write _ _ c answer (over_low (c.contents file) (IsAnswer certs_text list) (answer_low certs_text list)) still is
 no_write_fault (ListCode file) c answer still is = no_write _ _ c answer (over_low (c.contents file) IsListing listing_low) still is

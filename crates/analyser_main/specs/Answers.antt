@@ -6,7 +6,9 @@
 --   call .. files files' out out'     the call between these files and sinks, by what their types tell
 --   IsRefused bytes status text       what every order over a file gets for bytes that are too many, or no image,
 --                                     or whose code is refused for its flow
---   IsAnswer list bytes status text   what `analyse` answers over a file with these bytes
+--   report_text report certs          the text of the report
+--   IsAnswer told list bytes status text   what an order with a list answers over a file with these bytes, where told is
+--                                     the text for a report and certificates
 --   IsListed bytes text               the bytes are accepted, and the text is the list of their points
 --   IsListing bytes status text       what `list` answers over it
 --   IsUsage status text               what arguments get that are no order
@@ -36,9 +38,11 @@ use Rattle.report_text.specs.declared.reports.Report.{Report}
 use Rattle.report_text.specs.Text.{nl, text_of}
 use Rattle.analyser_core.specs.Accepted.{most_bytes, IsImageOf, HasPoints}
 use Rattle.analyser_core.specs.Reports.{IsReportOver}
-use Rattle.analyser_main.specs.Orders.{Order, Usage, Analyse, ListCode}
+use Rattle.analyser_core.specs.declared.cert_line.CertLine.{CertLine}
+use Rattle.analyser_main.specs.Orders.{Order, Usage, Analyse, Certify, ListCode}
 use Rattle.analyser_main.specs.Lines.{elf_line, flow_line, track_line, too_long_line}
 use Rattle.analyser_main.specs.PointsList.{list_text}
+use Rattle.analyser_main.specs.CertsText.{certs_text}
 
 pub record Call : Type 0 where
   pub contents : List ℕ → Option (List ℕ)
@@ -67,13 +71,16 @@ pub data IsRefused (bytes : List ℕ) : ℕ → List ℕ → Type 0 where
   bad_flow : (status : ℕ) (text : List ℕ) (image : Image) (refusal : FlowRefusal) → length bytes ≤ most_bytes → IsImageOf bytes image →
       IsFlowRefusal image refusal → status ≡ 1 → text ≡ flow_line refusal → IsRefused bytes status text
 
-pub data IsAnswer (list bytes : List ℕ) : ℕ → List ℕ → Type 0 where
-  refused : (status : ℕ) (text : List ℕ) → IsRefused bytes status text → IsAnswer list bytes status text
+abbrev pub report_text : Report → List CertLine → List ℕ
+report_text report certs = text_of report
+
+pub data IsAnswer (told : Report → List CertLine → List ℕ) (list bytes : List ℕ) : ℕ → List ℕ → Type 0 where
+  refused : (status : ℕ) (text : List ℕ) → IsRefused bytes status text → IsAnswer told list bytes status text
   no_list : (status : ℕ) (text : List ℕ) (image : Image) (points : FlowPoints) (refusal : TrackRefusal) → length bytes ≤ most_bytes →
       IsImageOf bytes image → HasPoints image points → IsTrackRefusal points.procedures list refusal →
-      status ≡ 1 → text ≡ track_line refusal → IsAnswer list bytes status text
-  analysed : (status : ℕ) (text : List ℕ) (report : Report) → length bytes ≤ most_bytes → IsReportOver bytes list report →
-      status ≡ 0 → text ≡ text_of report → IsAnswer list bytes status text
+      status ≡ 1 → text ≡ track_line refusal → IsAnswer told list bytes status text
+  analysed : (status : ℕ) (text : List ℕ) (report : Report) (certs : List CertLine) → length bytes ≤ most_bytes →
+      IsReportOver bytes list report certs → status ≡ 0 → text ≡ told report certs → IsAnswer told list bytes status text
 
 pub record IsListed (bytes text : List ℕ) : Type 0 where
   pub image : Image
@@ -88,7 +95,7 @@ pub data IsListing (bytes : List ℕ) : ℕ → List ℕ → Type 0 where
 
 pub record IsUsage (status : ℕ) (text : List ℕ) : Type 0 where
   pub status_is : status ≡ 2
-  pub text_is : text ≡ codes "usage:" ++ nl ++ codes "analyse FILE --track LIST" ++ nl ++ codes "list FILE" ++ nl
+  pub text_is : text ≡ codes "usage:" ++ nl ++ codes "analyse FILE --track LIST" ++ nl ++ codes "cert FILE --track LIST" ++ nl ++ codes "list FILE" ++ nl
 
 abbrev pub IsAnswerOver : Option (List ℕ) → (List ℕ → ℕ → List ℕ → Type 0) → ℕ → List ℕ → Type 0
 IsAnswerOver (Some bytes) answer status text = answer bytes status text
@@ -117,5 +124,6 @@ EndsOver file Is c answer = Ends (IsAnswerOver (c.contents file) Is) (HasRisen (
 
 abbrev pub IsCarriedOut : Order → Call → ℕ → Type 0
 IsCarriedOut Usage c answer = Ends IsUsage ⊥ c answer
-IsCarriedOut (Analyse file list) c answer = EndsOver file (IsAnswer list) c answer
+IsCarriedOut (Analyse file list) c answer = EndsOver file (IsAnswer report_text list) c answer
+IsCarriedOut (Certify file list) c answer = EndsOver file (IsAnswer certs_text list) c answer
 IsCarriedOut (ListCode file) c answer = EndsOver file IsListing c answer

@@ -3,7 +3,7 @@
 ghost use Rattle.std.specs.Prelude.{◌≤◌, length, IfOk};
 ghost use Rattle.outside.specs.Counts.{HasRisen};
 ghost use Rattle.analyser_core.specs.Accepted.{most_bytes};
-ghost use Rattle.analyser_main.specs.Answers.{IsAnswer, IsAnswerOver};
+ghost use Rattle.analyser_main.specs.Answers.{report_text, IsAnswer, IsAnswerOver};
 ghost use Rattle.analyser_main.specs.Replies.{AnswersWith};
 
 use crate::Reply;
@@ -16,7 +16,7 @@ use std::alloc::{AllocError, Global};
 
 /// What `analyse FILE --track LIST` gets.
 pub fn reply_to_analyse<F: Files>(alloc: Global, files: &mut F, file: &str, list: &str) -> Reply
-    ensures { AnswersWith (IsAnswerOver (F.contents files.old file.now) (IsAnswer list.now))
+    ensures { AnswersWith (IsAnswerOver (F.contents files.old file.now) (IsAnswer report_text list.now))
         (HasRisen (F.faults files.old file.now) (F.faults files.new file.now)) result }
 {
     match read_all(alloc, files, file, MOST_BYTES) {
@@ -29,7 +29,7 @@ pub fn reply_to_analyse<F: Files>(alloc: Global, files: &mut F, file: &str, list
 
 fn answer_over(alloc: Global, bytes: &[u8], list: &str) -> Result<(u8, Vec<u8>), AllocError>
     requires { length bytes.now ≤ most_bytes }
-    ensures { IfOk result (λ answer. IsAnswer list.now bytes.now answer.0 answer.1.items) }
+    ensures { IfOk result (λ answer. IsAnswer report_text list.now bytes.now answer.0 answer.1.items) }
 {
     match analyse_uncounted(alloc, bytes, list) {
         Ok(analysis) => Ok((0, write_report(alloc, &analysis.report)?)),

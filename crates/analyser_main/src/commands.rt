@@ -12,7 +12,7 @@ pub fn read_order(words: &[String]) -> Order<'_>
 {
     match words {
         [command, file, option, list] => {
-            analyse_order(
+            track_order(
                 command.as_str(),
                 file.as_str(),
                 option.as_str(),
@@ -24,11 +24,16 @@ pub fn read_order(words: &[String]) -> Order<'_>
     }
 }
 
-fn analyse_order<'a>(command: &str, file: &'a str, option: &str, list: &'a str) -> Order<'a>
+fn track_order<'a>(command: &str, file: &'a str, option: &str, list: &'a str) -> Order<'a>
     ensures { IsOrder result (order_of (command.now ∷ file.now ∷ option.now ∷ list.now ∷ [])) }
 {
-    if command == "analyse" && option == "--track" && is_operand(file) && is_operand(list) {
+    if !(option == "--track" && is_operand(file) && is_operand(list)) {
+        return Order::Usage;
+    }
+    if command == "analyse" {
         Order::Analyse { file, list }
+    } else if command == "cert" {
+        Order::Certify { file, list }
     } else {
         Order::Usage
     }

@@ -2,7 +2,8 @@
 //!
 //! `analyse FILE --track LIST` prints, for each instruction of an ELF file that can be reached, rows that
 //! generate all affine relations modulo 2^64 that hold there between 1 to 16 registers and frame slots
-//! and a constant. `list FILE` prints the instructions themselves. `affine_main` takes the arguments
+//! and a constant, and which registers each procedure leaves as they were. `cert FILE --track LIST` prints
+//! the latter alone. `list FILE` prints the instructions themselves. `affine_main` takes the arguments
 //! after the program's name, files to read and a sink for the text, and gives the exit status: its
 //! clause says which text the sink gains, and why each status comes. `run_with` ends with that status;
 //! `main` calls it over the system's arguments, files and standard output.
@@ -13,9 +14,14 @@
 #![tactic(auto)]
 
 mod analyse_command;
+mod cert_command;
+mod certs_text;
+#[cfg(test)]
+mod code_tests;
 mod commands;
 mod file_reply;
 mod list_command;
+mod names_text;
 mod points_list;
 mod refusal_lines;
 #[cfg(test)]
@@ -33,6 +39,7 @@ use std::{env, io};
 pub enum Order<'a> {
     Usage,
     Analyse { file: &'a str, list: &'a str },
+    Certify { file: &'a str, list: &'a str },
     ListCode { file: &'a str },
 }
 

@@ -29,7 +29,11 @@ pub fn write_list(alloc: Global, points: &Points) -> Result<Vec<u8>, AllocError>
 }
 
 // The line of a point's procedure, unless it is that of the point before.
-fn push_opening(text: &mut Vec<u8>, before: Option<u64>, procedure: u64) -> Result<(), AllocError>
+pub(crate) fn push_opening(
+    text: &mut Vec<u8>,
+    before: Option<u64>,
+    procedure: u64,
+) -> Result<(), AllocError>
     ensures { OnOk result (text.new.items ≡ text.old.items ++ opening_text before procedure) }
 {
     if before == Some(procedure) {

@@ -35,7 +35,7 @@ fn over_a_clean_sink<F: Files>(
 }
 
 // A file with these segments, each by its offset, address and size, and with words behind its headers.
-fn file_of(
+pub(crate) fn file_of(
     alloc: Global,
     entry: u64,
     segments: &[[u64; 3]],
@@ -62,12 +62,12 @@ fn file_of(
 }
 
 // The small file with these code words.
-fn small_file(alloc: Global, words: &[u32]) -> Result<Vec<u8>, AllocError> {
+pub(crate) fn small_file(alloc: Global, words: &[u32]) -> Result<Vec<u8>, AllocError> {
     let size = (words.len() as u64).wrapping_mul(4).wrapping_add(120);
     file_of(alloc, 0x10078, &[[0, 0x10000, size]], words)
 }
 
-fn words_of(alloc: Global, order: &str) -> Result<Vec<String>, AllocError> {
+pub(crate) fn words_of(alloc: Global, order: &str) -> Result<Vec<String>, AllocError> {
     let mut words = Vec::new(alloc);
     for word in order.split(' ') {
         words.push(String::from_str(alloc, word)?)?;
@@ -76,7 +76,12 @@ fn words_of(alloc: Global, order: &str) -> Result<Vec<String>, AllocError> {
 }
 
 // Files in memory: one file `f` with these bytes, read in pieces, whose call `fails` fails.
-fn one_file(alloc: Global, bytes: Vec<u8>, piece: usize, fails: u64) -> Result<MemFiles, AllocError>
+pub(crate) fn one_file(
+    alloc: Global,
+    bytes: Vec<u8>,
+    piece: usize,
+    fails: u64,
+) -> Result<MemFiles, AllocError>
     requires { 1 ≤ piece }
 {
     let name = String::from_str(alloc, "f")?;
@@ -95,20 +100,17 @@ fn one_file(alloc: Global, bytes: Vec<u8>, piece: usize, fails: u64) -> Result<M
 }
 
 const REPORT: &str =
-    "affine-report 1\ntrack a0\nproc 0x10078\nat 0x10078\nnone\nat 0x1007c\nrel 1*a0 -5\nend\n";
+    "affine-report 2\ntrack a0\nproc 0x10078\nat 0x10078\nnone\nat 0x1007c\nrel 1*a0 -5\nend\n";
 
 const LIST: &str =
     "affine-list 1\nproc 0x10078\n0x10078 00500513 addi a0,zero,5\n0x1007c 00100073 ebreak\nend\n";
 
-const WRAPPED: &str =
-    "affine-report 1\ntrack a0\nproc 0xfffffffffffffff8\nat 0x0\nrel 1*a0 -3\nat 0x4\nrel 1*a0 -24\nat 0xfffffffffffffff8\nnone\nat 0xfffffffffffffffc\nrel 1*a0 -1\nend\n";
+const USAGE: &str = "usage:\nanalyse FILE --track LIST\ncert FILE --track LIST\nlist FILE\n";
 
-const USAGE: &str = "usage:\nanalyse FILE --track LIST\nlist FILE\n";
-
-const EBREAK: u32 = 0x00100073;
+pub(crate) const EBREAK: u32 = 0x00100073;
 
 // The status and the text of an order over the file `f` with these bytes, read in pieces.
-fn answer_to(
+pub(crate) fn answer_to(
     alloc: Global,
     order: &str,
     bytes: Vec<u8>,
@@ -126,152 +128,14 @@ fn answer_to(
 }
 
 #[test]
-fn relations_of_straight_code(rt: HostRuntime) -> Result<(), Fail> {
-    let alloc = rt.alloc();
-    let triple: &[u32] = &[0x00151593, 0x00A585B3, EBREAK];
-    // The list, the code, and what stands under the line of each point.
-    let cases: [(&str, &[u32], &[&str]); 11] = [
-        ("a0", &[EBREAK], &["none"]),
-        ("a0", &[0x00500513, EBREAK], &["none", "rel 1*a0 -5"]),
-        (
-            "a0,a1",
-            triple,
-            &[
-                "none",
-                "rel 2*a0 +9223372036854775807*a1\nrel 9223372036854775808*a1",
-                "rel 1*a0 +6148914691236517205*a1",
-            ],
-        ),
-        (
-            "a1,a0",
-            triple,
-            &["none", "rel 1*a1 -2*a0", "rel 1*a1 -3*a0"],
-        ),
-        ("a0", &[0x03F51513, EBREAK], &["none", "rel 2*a0"]),
-        (
-            "a0,a1",
-            &[0xFFF54593, EBREAK],
-            &["none", "rel 1*a0 +1*a1 +1"],
-        ),
-        ("a0,a1", &[0x00154593, EBREAK], &["none", "none"]),
-        (
-            "a0",
-            &[0x80000537, EBREAK],
-            &["none", "rel 1*a0 +2147483648"],
-        ),
-        ("a0", &[0x00001517, EBREAK], &["none", "rel 1*a0 -69752"]),
-        (
-            "a0,a1,a2",
-            &[0x40A58633, EBREAK],
-            &["none", "rel 1*a0 -1*a1 +1*a2"],
-        ),
-        (
-            "a0,a1",
-            &[0x00100513, 0x00000073, EBREAK],
-            &["none", "rel 1*a0 -1", "none"],
-        ),
-    ];
-    for (list, code, points) in cases {
-        let mut words = words_of(alloc, "analyse f --track")?;
-        words.push(String::from_str(alloc, list)?)?;
-        let mut files = one_file(alloc, small_file(alloc, code)?, 4096, 0)?;
-        let mut out = MemSink::with_capacity(alloc, 1000, 1000, Vec::new(alloc))
-            .ok()
-            .ok_or("memory")?;
-        assert_eq!(rt; affine_main(alloc, &words, &mut files, &mut out), 0);
-        let report = report_with(alloc, list, points)?;
-        assert_eq!(rt; out.written.as_slice(), report.as_slice());
-    }
-    Ok(())
-}
-
-#[test]
-fn straight_code_goes_on_at_address_0(rt: HostRuntime) -> Result<(), Fail> {
-    let alloc = rt.alloc();
-    let segments = [[176, u64::MAX - 7, 8], [184, 0, 8]];
-    let words = [0x00100513, 0x00250513, 0x00351513, EBREAK];
-    let bytes = file_of(alloc, u64::MAX - 7, &segments, &words)?;
-    let (status, written) = answer_to(alloc, "analyse f --track a0", bytes, 4096)?;
-    assert_eq!(rt; status, 0);
-    assert_eq!(rt; written.as_slice(), WRAPPED.as_bytes());
-    Ok(())
-}
-
-// The report of a small file, by what stands under the line of each point.
-fn report_with(alloc: Global, list: &str, points: &[&str]) -> Result<Vec<u8>, AllocError> {
-    let mut report = Vec::from_slice(alloc, b"affine-report 1\ntrack ")?;
-    report.extend_from_slice(list.as_bytes())?;
-    report.extend_from_slice(b"\nproc 0x10078\n")?;
-    for (address, point) in ["0x10078", "0x1007c", "0x10080"].iter().zip(points) {
-        for text in ["at ", address, "\n", point, "\n"] {
-            report.extend_from_slice(text.as_bytes())?;
-        }
-    }
-    report.extend_from_slice(b"end\n")?;
-    Ok(report)
-}
-
-// The worked reports: calls, recursion with a slot, a loop, code behind a call that doesn't return.
-const RECURSION: &str =
-    "affine-report 1\ntrack sp,ra,0x10080:-8\nproc 0x10078\nat 0x10078\nnone\nat 0x1007c\nrel 1*ra -65660\nproc 0x10080\nat 0x10080\nrel 4611686018427387904*ra\nat 0x10084\nrel 4611686018427387904*ra\nat 0x10088\nrel 1*ra +4611686018427387903*0x10080:-8\nrel 4611686018427387904*0x10080:-8\nat 0x1008c\nrel 1*ra +4611686018427387903*0x10080:-8\nrel 4611686018427387904*0x10080:-8\nat 0x10090\nrel 4611686018427387904*ra\nrel 4611686018427387904*0x10080:-8\nat 0x10094\nrel 1*ra +4611686018427387903*0x10080:-8\nrel 4611686018427387904*0x10080:-8\nat 0x10098\nrel 1*ra +4611686018427387903*0x10080:-8\nrel 4611686018427387904*0x10080:-8\nend\n";
-
-const FRAME: &str =
-    "affine-report 1\ntrack sp,ra,s0,a0,0x1008c:-8,0x1008c:-16\nproc 0x10078\nat 0x10078\nnone\nat 0x1007c\nrel 1*sp -69752\nat 0x10080\nrel 1*sp -69632\nat 0x10084\nrel 1*sp -69632\nrel 1*ra -65664\nat 0x10088\nrel 1*sp -69632\nrel 1*ra -65672\nproc 0x1008c\nat 0x1008c\nrel 1*sp -69632\nrel 1*ra -65672\nat 0x10090\nrel 1*sp -69600\nrel 1*ra -65672\nat 0x10094\nrel 1*sp -69600\nrel 1*ra -65672\nrel 1*s0 -1*0x1008c:-16\nat 0x10098\nrel 1*sp -69600\nrel 1*ra -65672\nrel 1*s0 -1*0x1008c:-16\nrel 1*0x1008c:-8 -65672\nat 0x1009c\nrel 1*sp -69600\nrel 1*ra -65672\nrel 1*s0 -1*a0\nrel 1*0x1008c:-8 -65672\nat 0x100a0\nrel 1*sp -69600\nrel 1*ra -65696\nrel 4*s0 +4611686018427387903*a0\nrel 4611686018427387904*a0\nrel 1*0x1008c:-8 -65672\nat 0x100a4\nrel 1*sp -69600\nrel 1*ra -65696\nrel 1*s0 +3689348814741910323*a0\nrel 1*0x1008c:-8 -65672\nat 0x100a8\nrel 1*sp -69600\nrel 1*ra -65672\nrel 1*s0 +3689348814741910323*a0\nrel 1*0x1008c:-8 -65672\nat 0x100ac\nrel 1*sp -69600\nrel 1*ra -65672\nrel 1*s0 -1*0x1008c:-16\nrel 1*0x1008c:-8 -65672\nat 0x100b0\nrel 1*sp -69632\nrel 1*ra -65672\nrel 1*s0 -1*0x1008c:-16\nrel 1*0x1008c:-8 -65672\nproc 0x100b4\nat 0x100b4\nrel 1*sp -69600\nrel 1*ra -65696\nrel 1*s0 -1*a0\nat 0x100b8\nrel 1*sp -69600\nrel 1*ra -65696\nrel 4*s0 +4611686018427387903*a0\nrel 4611686018427387904*a0\nend\n";
-
-const LOOP: &str =
-    "affine-report 1\ntrack a0\nproc 0x10078\nat 0x10078\nnone\nat 0x1007c\nrel 2305843009213693952*a0\nat 0x10080\nrel 2305843009213693952*a0\nat 0x10084\nrel 2305843009213693952*a0\nend\n";
-
-const NO_RETURN: &str =
-    "affine-report 1\ntrack sp\nproc 0x10078\nat 0x10078\nnone\nat 0x1007c\nunreached\nproc 0x10080\nat 0x10080\nnone\nend\n";
-
-const PAIR: &str =
-    "affine-report 1\ntrack ra\nproc 0x10078\nat 0x10078\nnone\nat 0x1007c\nrel 1*ra -65656\nat 0x10080\nrel 1*ra -65664\nproc 0x10084\nat 0x10084\nrel 1*ra -65664\nend\n";
-
-const FRAME_CODE: [u32; 17] = [
-    0x00001117, 0xf8810113, 0x00000097, 0x00c080e7, 0x00100073, 0xfe010113, 0x00813823, 0x00113c23,
-    0x00050413, 0x018000ef, 0x00850533, 0x01813083, 0x01013403, 0x02010113, 0x00008067, 0x00251513,
-    0x00008067,
-];
-
-#[test]
-fn reports_of_code_with_calls(rt: HostRuntime) -> Result<(), Fail> {
-    let alloc = rt.alloc();
-    let cases: [(&str, &[u32], &str); 5] = [
-        // jal ra,8; ebreak; addi sp,sp,-16; sd ra,8(sp); beq a0,zero,8; jal ra,-12; ld ra,8(sp); addi sp,sp,16; ret
-        (
-            "sp,ra,0x10080:-8",
-            &[
-                0x008000EF, EBREAK, 0xFF010113, 0x00113423, 0x00050463, 0xFF5FF0EF, 0x00813083,
-                0x01010113, 0x00008067,
-            ],
-            RECURSION,
-        ),
-        ("sp,ra,s0,a0,0x1008c:-8,0x1008c:-16", &FRAME_CODE, FRAME),
-        // addi a0,zero,0; addi a0,a0,8; bne a0,a1,-4; ebreak
-        ("a0", &[0x00000513, 0x00850513, 0xFEB51EE3, EBREAK], LOOP),
-        // jal ra,8; ebreak; jal zero,0
-        ("sp", &[0x008000EF, EBREAK, 0x0000006F], NO_RETURN),
-        ("ra", &CALL, PAIR),
-    ];
-    for (list, code, report) in cases {
-        let mut words = words_of(alloc, "analyse f --track")?;
-        words.push(String::from_str(alloc, list)?)?;
-        let mut files = one_file(alloc, small_file(alloc, code)?, 4096, 0)?;
-        let mut out = MemSink::with_capacity(alloc, 2000, 2000, Vec::new(alloc))
-            .ok()
-            .ok_or("memory")?;
-        assert_eq!(rt; affine_main(alloc, &words, &mut files, &mut out), 0);
-        assert_eq!(rt; out.written.as_slice(), report.as_bytes());
-    }
-    Ok(())
-}
-
-#[test]
 fn orders_get_their_texts(rt: HostRuntime) -> Result<(), Fail> {
     let alloc = rt.alloc();
-    let cases: [(&str, usize, u8, &str); 24] = [
+    let cases: [(&str, usize, u8, &str); 27] = [
         ("analyse f --track x10", 128, 0, REPORT),
         ("list f", 128, 0, LIST),
+        ("cert f --track s0,fp", 128, 1, "refused Repeated 2\n"),
+        ("cert g --track a0", 128, 3, "read fault\n"),
+        ("cert f", 128, 2, USAGE),
         ("analyse f --track ", 128, 1, "refused Empty\n"),
         (
             "analyse f --track a0,a1,a2,a3,a4,a5,a6,a7,s0,s1,s2,s3,s4,s5,s6,s7,s8",
@@ -345,7 +209,7 @@ fn orders_get_their_texts(rt: HostRuntime) -> Result<(), Fail> {
         ([0x00000513, 0x00000513], "refused OutsideCode at 0x10080\n"),
         ([0, EBREAK], "refused NoInstruction 00000000 at 0x10078\n"),
     ] {
-        for order in ["list f", "analyse f --track a0"] {
+        for order in ["list f", "analyse f --track a0", "cert f --track a0"] {
             let (status, written) = answer_to(alloc, order, small_file(alloc, &code)?, 4096)?;
             assert_eq!(rt; status, 1);
             assert_eq!(rt; written.as_slice(), text.as_bytes());
@@ -354,7 +218,7 @@ fn orders_get_their_texts(rt: HostRuntime) -> Result<(), Fail> {
     Ok(())
 }
 
-const CALL: [u32; 4] = [0x00000097, 0x00c080e7, EBREAK, 0x00008067];
+pub(crate) const CALL: [u32; 4] = [0x00000097, 0x00c080e7, EBREAK, 0x00008067];
 
 const CALL_LIST: &str =
     "affine-list 1\nproc 0x10078\n0x10078 00000097 auipc ra,0x0\n0x1007c 00c080e7 jalr ra,12(ra)\n0x10080 00100073 ebreak\nproc 0x10084\n0x10084 00008067 jalr zero,0(ra)\nend\n";
@@ -434,11 +298,11 @@ fn faults_have_their_status(rt: HostRuntime) -> Result<(), Fail> {
     };
     assert_eq!(rt; over_clean_files(alloc, &[], &mut none, &mut sink), 2);
     assert_eq!(rt; over_a_clean_sink(alloc, &[], &mut none, &mut sink), 2);
-    assert_eq!(rt; sink.taken, 86);
+    assert_eq!(rt; sink.taken, 132);
     // What can't be had of the arguments: no memory for them, or no text.
     for (kind, status, taken) in [
-        (ErrorKind::OutOfMemory, 5, 100),
-        (ErrorKind::InvalidData, 2, 143),
+        (ErrorKind::OutOfMemory, 5, 146),
+        (ErrorKind::InvalidData, 2, 212),
     ] {
         let words: io::Result<Vec<String>> = Err(io::Error::from(kind));
         let code = run_with(alloc, words, &mut none, &mut sink);

@@ -8,6 +8,7 @@ ghost use Rattle.analyser_main.specs.Answers.{call, IsUsage, IsCarriedOut, Ends,
 ghost use Rattle.analyser_main.specs.Replies.{SaysReply};
 
 use crate::analyse_command::reply_to_analyse;
+use crate::cert_command::reply_to_cert;
 use crate::commands::read_order;
 use crate::list_command::reply_to_list;
 use crate::{Order, Reply};
@@ -17,7 +18,7 @@ use std::io;
 use std::io::ErrorKind;
 use std::process::ExitCode;
 
-const USAGE: &[u8] = b"usage:\nanalyse FILE --track LIST\nlist FILE\n";
+const USAGE: &[u8] = b"usage:\nanalyse FILE --track LIST\ncert FILE --track LIST\nlist FILE\n";
 
 const READ_FAULT: &[u8] = b"read fault\n";
 
@@ -39,6 +40,7 @@ pub fn affine_main<F: Files, K: Sink>(
     match read_order(words) {
         Order::Usage => say(out, 2, USAGE),
         Order::Analyse { file, list } => say_reply(out, reply_to_analyse(alloc, files, file, list)),
+        Order::Certify { file, list } => say_reply(out, reply_to_cert(alloc, files, file, list)),
         Order::ListCode { file } => say_reply(out, reply_to_list(alloc, files, file)),
     }
 }

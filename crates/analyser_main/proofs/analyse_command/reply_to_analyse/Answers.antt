@@ -1,6 +1,6 @@
 use Rattle.std.proofs.Common.{Err, ap}
 use Rattle.analyser_main.specs.Answers as answers
-use Rattle.analyser_main.specs.Answers.{too_long, IsAnswer}
+use Rattle.analyser_main.specs.Answers.{too_long, report_text, IsAnswer}
 use Rattle.analyser_main.proofs.RepliesGiven.{reply_answers}
 use Rattle.analyser_main.proofs.TooLong.{given_too_long}
 use Rattle.analyser_main.proofs.analyse_command.reply_to_analyse.Goals as goal
@@ -11,5 +11,5 @@ returns-in-Err-TooLong g c =
     let limit = c.in-Err-TooLong.ensures.the_limit c.in-Err-TooLong.field-0-0 error_is in
     let longer = c.in-Err-TooLong.ensures.too_long (rw limit at error_is) in
     reply_answers _ _ c.too_long.result _ c.reply-in-Err-TooLong.ensures
-    (given_too_long _ (IsAnswer c.args.list.now) c.too_long.result
+    (given_too_long _ (IsAnswer report_text c.args.list.now) c.too_long.result
     (λ bytes status text more is_1 is_line. answers.IsAnswer.refused status text (too_long status text more is_1 is_line)) longer c.too_long.ensures)

@@ -10,6 +10,10 @@ pub returns-in-Analyse-clause-carried_out : goal.returns-in-Analyse-clause-carri
 returns-in-Analyse-clause-carried_out g c =
     rw c.in-Analyse.ensures (reply_ends _ _ _ c.reply_to_analyse.result _ c.reply_to_analyse.ensures c.say_reply.ensures.said)
 
+pub returns-in-Certify-clause-carried_out : goal.returns-in-Certify-clause-carried_out
+returns-in-Certify-clause-carried_out g c =
+    rw c.in-Certify.ensures (reply_ends _ _ _ c.reply_to_cert.result _ c.reply_to_cert.ensures c.say_reply-in-Certify.ensures.said)
+
 pub returns-in-ListCode-clause-carried_out : goal.returns-in-ListCode-clause-carried_out
 returns-in-ListCode-clause-carried_out g c =
     rw c.in-ListCode.ensures (reply_ends _ _ _ c.reply_to_list.result _ c.reply_to_list.ensures c.say_reply-in-ListCode.ensures.said)

@@ -1,0 +1,124 @@
+//! The certificates of a program's procedures, and their words in a report.
+
+ghost use Rattle.std.specs.Prelude.{◌≡◌, ◌≤◌, ◌++◌, ◌∷◌, [], length, map, All, IsTrue, IfOk, IfNone, IfSome, OnOk};
+ghost use Rattle.affine_prog.specs.Programs.{IsWellFormed};
+ghost use Rattle.affine_prog.specs.Spans.{AreExits};
+ghost use Rattle.affine_lift.specs.Lifting.{IsLifted};
+ghost use Rattle.report_text.specs.Names.{is_certified};
+ghost use Rattle.report_text.specs.Certificates.{certified_names};
+ghost use Rattle.report_text.specs.declared.names.Name.TheVariants.{Register};
+ghost use Rattle.analyser_core.specs.Certified.{AreCertificatesOf, word_of, told_in, told_of};
+ghost use Rattle.analyser_core.specs.ReadOff.{AreReadOff};
+
+use crate::cert_line::CertLine;
+use abi_cert::laws::certificates_tell_of_paths;
+use abi_cert::{Cert, certificate};
+use affine_prog::Program;
+use flow_points::Points;
+use lead_basis::Memory;
+use map_modules::MatBasis;
+use report_text::{CertWord, Name, ReportCert, Tracked, is_certified};
+use sqlite_items::Items;
+use std::alloc::{AllocError, Global};
+
+/// The certificates of the program's procedures, from the bases at their exits.
+pub(crate) fn certify(
+    alloc: Global,
+    points: &Points,
+    tracked: &Tracked,
+    program: &Program,
+    exits: &[MatBasis],
+) -> Result<Items<CertLine>, Memory>
+    requires formed { IsWellFormed program.now }
+    requires lifted { IsLifted points.now tracked.now.names program.now }
+    requires exits { AreExits program.now exits.now }
+    ensures { IfOk result (AreCertificatesOf program.now points.now tracked.now.names) }
+{
+    certificates_tell_of_paths();
+    let mut certs = Items::new(alloc);
+    for (p, entry) in points.procedures().iter().enumerate() {
+        exits[p].known();
+        let lines = lines_of(alloc, *entry, tracked.names.as_slice(), &exits[p])?;
+        append(&mut certs, lines)?;
+    }
+    Ok(certs)
+}
+
+// What a procedure's summary says of each certified register among the names.
+fn lines_of(
+    alloc: Global,
+    proc_entry: u64,
+    names: &[Name],
+    summary: &MatBasis,
+) -> Result<Items<CertLine>, Memory>
+    requires { length names.now ≤ 16 }
+    ensures { IfOk result (AreReadOff summary.now proc_entry names.now) }
+{
+    let mut lines = Items::new(alloc);
+    for i in 0..names.len() {
+        if let Some(register) = certified_register(names[i]) {
+            let line = CertLine {
+                proc_entry,
+                register,
+                cert: certificate(summary, i),
+            };
+            push(&mut lines, line)?;
+        }
+    }
+    Ok(lines)
+}
+
+// The register that a name is, where it is one of those that are certified.
+fn certified_register(name: Name) -> Option<u8>
+    ensures some { IfSome result (λ r. (name ≡ Register r) × IsTrue (is_certified r)) }
+    ensures none { IfNone result (certified_names (name ∷ []) ≡ []) }
+{
+    match name {
+        Name::Register(register) if is_certified(register) => Some(register),
+        _ => None,
+    }
+}
+
+fn push(lines: &mut Items<CertLine>, line: CertLine) -> Result<(), Memory>
+    ensures { OnOk result (lines.new ≡ lines.old ++ line ∷ []) }
+{
+    match lines.push(line) {
+        Ok(()) => Ok(()),
+        Err(_) => Err(Memory),
+    }
+}
+
+fn append(certs: &mut Items<CertLine>, lines: Items<CertLine>) -> Result<(), Memory>
+    ensures { OnOk result (certs.new ≡ certs.old ++ lines) }
+{
+    match certs.append(lines) {
+        Ok(()) => Ok(()),
+        Err(_) => Err(Memory),
+    }
+}
+
+/// The certificates as a report tells them.
+pub(crate) fn words_of(alloc: Global, certs: &[CertLine]) -> Result<Items<ReportCert>, AllocError>
+    requires { All (λ line. IsTrue (is_certified line.register)) certs.now }
+    ensures { IfOk result (λ words. map told_of words ≡ map told_in certs.now) }
+{
+    let mut words = Items::new(alloc);
+    for line in certs {
+        words.push(ReportCert {
+            proc_entry: line.proc_entry,
+            register: line.register,
+            word: word_of(line.cert),
+        })?;
+    }
+    Ok(words)
+}
+
+fn word_of(cert: Cert) -> CertWord
+    ensures { result ≡ word_of cert }
+{
+    match cert {
+        Cert::Granted => CertWord::Granted,
+        Cert::Broken => CertWord::Broken,
+        Cert::NeverReturns => CertWord::Never,
+    }
+}

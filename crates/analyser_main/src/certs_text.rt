@@ -1,0 +1,105 @@
+//! The certificates of an analysis, as text.
+
+ghost use Rattle.std.specs.Prelude.{◌≡◌, ◌++◌, flat_map, map, All, IsTrue, IfOk, OnOk};
+ghost use Rattle.report_text.specs.Names.{is_certified};
+ghost use Rattle.report_text.specs.Certificates.{procedures_of};
+ghost use Rattle.report_text.specs.Text.{cert_word_text};
+ghost use Rattle.analyser_core.specs.Certified.{word_of};
+ghost use Rattle.analyser_main.specs.CertsText.{line_text, own_line_text, procedure_text, certs_text};
+
+use crate::names_text::push_names;
+use crate::points_list::push_opening;
+use abi_cert::Cert;
+use analyser_core::CertLine;
+use report_text::{PointRows, Report};
+use rv_decode::register_name;
+use std::alloc::{AllocError, Global};
+
+/// The text of the certificates.
+pub fn write_certs(
+    alloc: Global,
+    report: &Report,
+    certs: &[CertLine],
+) -> Result<Vec<u8>, AllocError>
+    requires { All (λ line. IsTrue (is_certified line.register)) certs.now }
+    ensures { IfOk result (λ text. text.items ≡ certs_text report.now certs.now) }
+{
+    let mut text = Vec::from_slice(alloc, b"affine-cert 1\ntrack ")?;
+    push_names(&mut text, report.tracked.names.as_slice())?;
+    text.extend_from_slice(b"\n")?;
+    let procedures = procedures_of(alloc, report.points.as_slice())?;
+    push_procedures(&mut text, &procedures, certs)?;
+    text.extend_from_slice(b"end\n")?;
+    Ok(text)
+}
+
+// The procedures of points, each once where they ascend.
+fn procedures_of(alloc: Global, points: &[PointRows]) -> Result<Vec<u64>, AllocError>
+    ensures { IfOk result (λ procedures. procedures.items ≡ procedures_of points.now) }
+{
+    let mut procedures = entries_of(alloc, points)?;
+    procedures.dedup();
+    Ok(procedures)
+}
+
+fn entries_of(alloc: Global, points: &[PointRows]) -> Result<Vec<u64>, AllocError>
+    ensures { IfOk result (λ entries. entries.items ≡ map (λ point. point.proc_entry) points.now) }
+{
+    points.iter().map(|point| point.proc_entry).collect(alloc)
+}
+
+fn push_procedures(
+    text: &mut Vec<u8>,
+    procedures: &[u64],
+    certs: &[CertLine],
+) -> Result<(), AllocError>
+    requires { All (λ line. IsTrue (is_certified line.register)) certs.now }
+    ensures { OnOk result (text.new.items ≡ text.old.items ++ flat_map (procedure_text certs.now) procedures.now) }
+{
+    for procedure in procedures {
+        push_procedure(text, *procedure, certs)?;
+    }
+    Ok(())
+}
+
+fn push_procedure(text: &mut Vec<u8>, procedure: u64, certs: &[CertLine]) -> Result<(), AllocError>
+    requires { All (λ line. IsTrue (is_certified line.register)) certs.now }
+    ensures { OnOk result (text.new.items ≡ text.old.items ++ procedure_text certs.now procedure) }
+{
+    push_opening(text, None, procedure)?;
+    for line in certs {
+        push_own(text, procedure, *line)?;
+    }
+    Ok(())
+}
+
+// The line, where it is of this procedure.
+fn push_own(text: &mut Vec<u8>, procedure: u64, line: CertLine) -> Result<(), AllocError>
+    requires { IsTrue (is_certified line.register) }
+    ensures { OnOk result (text.new.items ≡ text.old.items ++ own_line_text procedure line) }
+{
+    if line.proc_entry == procedure {
+        push_line(text, line)?;
+    }
+    Ok(())
+}
+
+fn push_line(text: &mut Vec<u8>, line: CertLine) -> Result<(), AllocError>
+    requires { IsTrue (is_certified line.register) }
+    ensures { OnOk result (text.new.items ≡ text.old.items ++ line_text line) }
+{
+    text.extend_from_slice(register_name(line.register).as_bytes())?;
+    text.extend_from_slice(b" ")?;
+    text.extend_from_slice(cert_word(line.cert).as_bytes())?;
+    text.extend_from_slice(b"\n")
+}
+
+fn cert_word(cert: Cert) -> &'static str
+    ensures { result.now ≡ cert_word_text (word_of cert) }
+{
+    match cert {
+        Cert::Granted => "granted",
+        Cert::Broken => "broken",
+        Cert::NeverReturns => "never",
+    }
+}

@@ -1,0 +1,237 @@
+//! Worked reports and certificates, of straight code and of code with calls.
+
+use crate::tests::{CALL, EBREAK, answer_to, file_of, one_file, small_file, words_of};
+use crate::top_call::affine_main;
+use outside::MemSink;
+use std::alloc::{AllocError, Global};
+use std::test::Fail;
+
+#[test]
+fn relations_of_straight_code(rt: HostRuntime) -> Result<(), Fail> {
+    let alloc = rt.alloc();
+    let triple: &[u32] = &[0x00151593, 0x00A585B3, EBREAK];
+    // The list, the code, and what stands under the line of each point.
+    let cases: [(&str, &[u32], &[&str]); 11] = [
+        ("a0", &[EBREAK], &["none"]),
+        ("a0", &[0x00500513, EBREAK], &["none", "rel 1*a0 -5"]),
+        (
+            "a0,a1",
+            triple,
+            &[
+                "none",
+                "rel 2*a0 +9223372036854775807*a1\nrel 9223372036854775808*a1",
+                "rel 1*a0 +6148914691236517205*a1",
+            ],
+        ),
+        (
+            "a1,a0",
+            triple,
+            &["none", "rel 1*a1 -2*a0", "rel 1*a1 -3*a0"],
+        ),
+        ("a0", &[0x03F51513, EBREAK], &["none", "rel 2*a0"]),
+        (
+            "a0,a1",
+            &[0xFFF54593, EBREAK],
+            &["none", "rel 1*a0 +1*a1 +1"],
+        ),
+        ("a0,a1", &[0x00154593, EBREAK], &["none", "none"]),
+        (
+            "a0",
+            &[0x80000537, EBREAK],
+            &["none", "rel 1*a0 +2147483648"],
+        ),
+        ("a0", &[0x00001517, EBREAK], &["none", "rel 1*a0 -69752"]),
+        (
+            "a0,a1,a2",
+            &[0x40A58633, EBREAK],
+            &["none", "rel 1*a0 -1*a1 +1*a2"],
+        ),
+        (
+            "a0,a1",
+            &[0x00100513, 0x00000073, EBREAK],
+            &["none", "rel 1*a0 -1", "none"],
+        ),
+    ];
+    for (list, code, points) in cases {
+        let mut words = words_of(alloc, "analyse f --track")?;
+        words.push(String::from_str(alloc, list)?)?;
+        let mut files = one_file(alloc, small_file(alloc, code)?, 4096, 0)?;
+        let mut out = MemSink::with_capacity(alloc, 1000, 1000, Vec::new(alloc))
+            .ok()
+            .ok_or("memory")?;
+        assert_eq!(rt; affine_main(alloc, &words, &mut files, &mut out), 0);
+        let report = report_with(alloc, list, points)?;
+        assert_eq!(rt; out.written.as_slice(), report.as_slice());
+    }
+    Ok(())
+}
+
+const WRAPPED: &str =
+    "affine-report 2\ntrack a0\nproc 0xfffffffffffffff8\nat 0x0\nrel 1*a0 -3\nat 0x4\nrel 1*a0 -24\nat 0xfffffffffffffff8\nnone\nat 0xfffffffffffffffc\nrel 1*a0 -1\nend\n";
+
+#[test]
+fn straight_code_goes_on_at_address_0(rt: HostRuntime) -> Result<(), Fail> {
+    let alloc = rt.alloc();
+    let segments = [[176, u64::MAX - 7, 8], [184, 0, 8]];
+    let words = [0x00100513, 0x00250513, 0x00351513, EBREAK];
+    let bytes = file_of(alloc, u64::MAX - 7, &segments, &words)?;
+    let (status, written) = answer_to(alloc, "analyse f --track a0", bytes, 4096)?;
+    assert_eq!(rt; status, 0);
+    assert_eq!(rt; written.as_slice(), WRAPPED.as_bytes());
+    Ok(())
+}
+
+// The report of a small file, by what stands under the line of each point.
+fn report_with(alloc: Global, list: &str, points: &[&str]) -> Result<Vec<u8>, AllocError> {
+    let mut report = Vec::from_slice(alloc, b"affine-report 2\ntrack ")?;
+    report.extend_from_slice(list.as_bytes())?;
+    report.extend_from_slice(b"\nproc 0x10078\n")?;
+    for (address, point) in ["0x10078", "0x1007c", "0x10080"].iter().zip(points) {
+        for text in ["at ", address, "\n", point, "\n"] {
+            report.extend_from_slice(text.as_bytes())?;
+        }
+    }
+    report.extend_from_slice(b"end\n")?;
+    Ok(report)
+}
+
+// The worked reports: calls, recursion with a slot, a loop, code behind a call that doesn't return.
+const RECURSION: &str =
+    "affine-report 2\ntrack sp,ra,0x10080:-8\nproc 0x10078\ncert sp never\ncert ra never\nat 0x10078\nnone\nat 0x1007c\nrel 1*ra -65660\nproc 0x10080\ncert sp granted\ncert ra granted\nat 0x10080\nrel 4611686018427387904*ra\nat 0x10084\nrel 4611686018427387904*ra\nat 0x10088\nrel 1*ra +4611686018427387903*0x10080:-8\nrel 4611686018427387904*0x10080:-8\nat 0x1008c\nrel 1*ra +4611686018427387903*0x10080:-8\nrel 4611686018427387904*0x10080:-8\nat 0x10090\nrel 4611686018427387904*ra\nrel 4611686018427387904*0x10080:-8\nat 0x10094\nrel 1*ra +4611686018427387903*0x10080:-8\nrel 4611686018427387904*0x10080:-8\nat 0x10098\nrel 1*ra +4611686018427387903*0x10080:-8\nrel 4611686018427387904*0x10080:-8\nend\n";
+
+const FRAME: &str =
+    "affine-report 2\ntrack sp,ra,s0,a0,0x1008c:-8,0x1008c:-16\nproc 0x10078\ncert sp never\ncert ra never\ncert s0 never\nat 0x10078\nnone\nat 0x1007c\nrel 1*sp -69752\nat 0x10080\nrel 1*sp -69632\nat 0x10084\nrel 1*sp -69632\nrel 1*ra -65664\nat 0x10088\nrel 1*sp -69632\nrel 1*ra -65672\nproc 0x1008c\ncert sp granted\ncert ra granted\ncert s0 granted\nat 0x1008c\nrel 1*sp -69632\nrel 1*ra -65672\nat 0x10090\nrel 1*sp -69600\nrel 1*ra -65672\nat 0x10094\nrel 1*sp -69600\nrel 1*ra -65672\nrel 1*s0 -1*0x1008c:-16\nat 0x10098\nrel 1*sp -69600\nrel 1*ra -65672\nrel 1*s0 -1*0x1008c:-16\nrel 1*0x1008c:-8 -65672\nat 0x1009c\nrel 1*sp -69600\nrel 1*ra -65672\nrel 1*s0 -1*a0\nrel 1*0x1008c:-8 -65672\nat 0x100a0\nrel 1*sp -69600\nrel 1*ra -65696\nrel 4*s0 +4611686018427387903*a0\nrel 4611686018427387904*a0\nrel 1*0x1008c:-8 -65672\nat 0x100a4\nrel 1*sp -69600\nrel 1*ra -65696\nrel 1*s0 +3689348814741910323*a0\nrel 1*0x1008c:-8 -65672\nat 0x100a8\nrel 1*sp -69600\nrel 1*ra -65672\nrel 1*s0 +3689348814741910323*a0\nrel 1*0x1008c:-8 -65672\nat 0x100ac\nrel 1*sp -69600\nrel 1*ra -65672\nrel 1*s0 -1*0x1008c:-16\nrel 1*0x1008c:-8 -65672\nat 0x100b0\nrel 1*sp -69632\nrel 1*ra -65672\nrel 1*s0 -1*0x1008c:-16\nrel 1*0x1008c:-8 -65672\nproc 0x100b4\ncert sp granted\ncert ra granted\ncert s0 granted\nat 0x100b4\nrel 1*sp -69600\nrel 1*ra -65696\nrel 1*s0 -1*a0\nat 0x100b8\nrel 1*sp -69600\nrel 1*ra -65696\nrel 4*s0 +4611686018427387903*a0\nrel 4611686018427387904*a0\nend\n";
+
+const LOOP: &str =
+    "affine-report 2\ntrack a0\nproc 0x10078\nat 0x10078\nnone\nat 0x1007c\nrel 2305843009213693952*a0\nat 0x10080\nrel 2305843009213693952*a0\nat 0x10084\nrel 2305843009213693952*a0\nend\n";
+
+const NO_RETURN: &str =
+    "affine-report 2\ntrack sp\nproc 0x10078\ncert sp never\nat 0x10078\nnone\nat 0x1007c\nunreached\nproc 0x10080\ncert sp never\nat 0x10080\nnone\nend\n";
+
+const PAIR: &str =
+    "affine-report 2\ntrack ra\nproc 0x10078\ncert ra never\nat 0x10078\nnone\nat 0x1007c\nrel 1*ra -65656\nat 0x10080\nrel 1*ra -65664\nproc 0x10084\ncert ra granted\nat 0x10084\nrel 1*ra -65664\nend\n";
+
+const FRAME_CODE: [u32; 17] = [
+    0x00001117, 0xf8810113, 0x00000097, 0x00c080e7, 0x00100073, 0xfe010113, 0x00813823, 0x00113c23,
+    0x00050413, 0x018000ef, 0x00850533, 0x01813083, 0x01013403, 0x02010113, 0x00008067, 0x00251513,
+    0x00008067,
+];
+
+// jal ra,8; ebreak; addi sp,sp,-16; sd ra,8(sp); beq a0,zero,8; jal ra,-12; ld ra,8(sp); addi sp,sp,16; ret
+const RECURSION_CODE: [u32; 9] = [
+    0x008000EF, EBREAK, 0xFF010113, 0x00113423, 0x00050463, 0xFF5FF0EF, 0x00813083, 0x01010113,
+    0x00008067,
+];
+
+// jal ra,8; ebreak; jal zero,0
+const NO_RETURN_CODE: [u32; 3] = [0x008000EF, EBREAK, 0x0000006F];
+
+// jal ra,8; ebreak; addi sp,sp,-16; sd ra,8(sp); sw zero,8(sp); ld ra,8(sp); addi sp,sp,16; ret
+const INTO_SLOT_CODE: [u32; 8] = [
+    0x008000EF, EBREAK, 0xFF010113, 0x00113423, 0x00012423, 0x00813083, 0x01010113, 0x00008067,
+];
+
+// The same with sw zero,4(sp)
+const BESIDE_SLOT_CODE: [u32; 8] = [
+    0x008000EF, EBREAK, 0xFF010113, 0x00113423, 0x00012223, 0x00813083, 0x01010113, 0x00008067,
+];
+
+#[test]
+fn certificates_of_code_with_calls(rt: HostRuntime) -> Result<(), Fail> {
+    let alloc = rt.alloc();
+    // The list, the code, and what stands under the line of each procedure.
+    let never = "sp never\nra never\n";
+    let given_back = "sp granted\nra granted\n";
+    let lost = "sp granted\nra broken\n";
+    let saved = "sp granted\nra granted\ns0 granted\n";
+    let cases: [(&str, &[u32], &[(&str, &str)]); 6] = [
+        (
+            "sp,ra,0x10080:-8",
+            &RECURSION_CODE,
+            &[("0x10078", never), ("0x10080", given_back)],
+        ),
+        (
+            "sp,ra",
+            &RECURSION_CODE,
+            &[("0x10078", never), ("0x10080", lost)],
+        ),
+        (
+            "sp,ra,0x10080:-8",
+            &INTO_SLOT_CODE,
+            &[("0x10078", never), ("0x10080", lost)],
+        ),
+        (
+            "sp,ra,0x10080:-8",
+            &BESIDE_SLOT_CODE,
+            &[("0x10078", never), ("0x10080", given_back)],
+        ),
+        (
+            "sp,ra,s0,a0,0x1008c:-8,0x1008c:-16",
+            &FRAME_CODE,
+            &[
+                ("0x10078", "sp never\nra never\ns0 never\n"),
+                ("0x1008c", saved),
+                ("0x100b4", saved),
+            ],
+        ),
+        (
+            "sp",
+            &NO_RETURN_CODE,
+            &[("0x10078", "sp never\n"), ("0x10080", "sp never\n")],
+        ),
+    ];
+    for (list, code, procedures) in cases {
+        let mut words = words_of(alloc, "cert f --track")?;
+        words.push(String::from_str(alloc, list)?)?;
+        let mut files = one_file(alloc, small_file(alloc, code)?, 4096, 0)?;
+        let mut out = MemSink::with_capacity(alloc, 1000, 1000, Vec::new(alloc))
+            .ok()
+            .ok_or("memory")?;
+        assert_eq!(rt; affine_main(alloc, &words, &mut files, &mut out), 0);
+        let text = certs_with(alloc, list, procedures)?;
+        assert_eq!(rt; out.written.as_slice(), text.as_slice());
+    }
+    Ok(())
+}
+
+// The certificates of a file, by what stands under the line of each procedure.
+fn certs_with(
+    alloc: Global,
+    list: &str,
+    procedures: &[(&str, &str)],
+) -> Result<Vec<u8>, AllocError> {
+    let mut text = Vec::from_slice(alloc, b"affine-cert 1\ntrack ")?;
+    text.extend_from_slice(list.as_bytes())?;
+    text.extend_from_slice(b"\n")?;
+    for (entry, lines) in procedures {
+        for part in ["proc ", *entry, "\n", *lines] {
+            text.extend_from_slice(part.as_bytes())?;
+        }
+    }
+    text.extend_from_slice(b"end\n")?;
+    Ok(text)
+}
+
+#[test]
+fn reports_of_code_with_calls(rt: HostRuntime) -> Result<(), Fail> {
+    let alloc = rt.alloc();
+    let cases: [(&str, &[u32], &str); 5] = [
+        ("sp,ra,0x10080:-8", &RECURSION_CODE, RECURSION),
+        ("sp,ra,s0,a0,0x1008c:-8,0x1008c:-16", &FRAME_CODE, FRAME),
+        // addi a0,zero,0; addi a0,a0,8; bne a0,a1,-4; ebreak
+        ("a0", &[0x00000513, 0x00850513, 0xFEB51EE3, EBREAK], LOOP),
+        ("sp", &NO_RETURN_CODE, NO_RETURN),
+        ("ra", &CALL, PAIR),
+    ];
+    for (list, code, report) in cases {
+        let mut words = words_of(alloc, "analyse f --track")?;
+        words.push(String::from_str(alloc, list)?)?;
+        let mut files = one_file(alloc, small_file(alloc, code)?, 4096, 0)?;
+        let mut out = MemSink::with_capacity(alloc, 2000, 2000, Vec::new(alloc))
+            .ok()
+            .ok_or("memory")?;
+        assert_eq!(rt; affine_main(alloc, &words, &mut files, &mut out), 0);
+        assert_eq!(rt; out.written.as_slice(), report.as_bytes());
+    }
+    Ok(())
+}
