@@ -32,7 +32,7 @@ IsLow Is = (status : ℕ) (text : List ℕ) → Is status text → status < 3
 
 answer_low : (told : Report → List CertLine → List ℕ) (list bytes : List ℕ) → IsLow (IsAnswer told list bytes)
 answer_low told list bytes status text (refused status' text' is) = let low = refused_status bytes status text is in omega arith
-answer_low told list bytes status text (no_list status' text' image points refusal short of has why is line) = omega arith
+answer_low told list bytes status text (no_list status' text' image points refusal short of has why other is line) = omega arith
 answer_low told list bytes status text (analysed status' text' report certs short what is line) = omega arith
 
 listing_low : (bytes : List ℕ) → IsLow (IsListing bytes)

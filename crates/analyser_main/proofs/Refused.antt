@@ -14,5 +14,5 @@ pub answer_refused : (told : Report → List CertLine → List ℕ) (list bytes 
 answer_refused told list bytes (Elf refusal) text short is line = answers.IsAnswer.refused 1 text (no_image 1 text refusal short is refl line)
 answer_refused told list bytes (Flow refusal) text short is line =
     answers.IsAnswer.refused 1 text (bad_flow 1 text is.0 refusal short is.1 is.2 refl line)
-answer_refused told list bytes (Track refusal) text short is line = no_list 1 text is.0 is.1 refusal short is.2 is.3 is.4 refl line
+answer_refused told list bytes (Track refusal) text short is line = no_list 1 text is.0 is.1 refusal short is.2 is.3 is.4 is.5 refl line
 answer_refused told list bytes Memory text short is line = absurd line

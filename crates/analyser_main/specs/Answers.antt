@@ -23,7 +23,7 @@
 --   EndsOver file Is call answer      the same of an order over a file, where Is speaks of the file's bytes and a read fault
 --                                     comes only where the count of the file's faults rose
 --   IsCarriedOut order call answer    the call ends as the order has it
-use Rattle.std.specs.Prelude.{◌≡◌, ℕ, ◌<◌, ◌≤◌, List, ◌++◌, Option, Some, None, length, codes}
+use Rattle.std.specs.Prelude.{◌≡◌, ◌≢◌, ℕ, ◌<◌, ◌≤◌, List, ◌++◌, Option, Some, None, length, codes}
 use Rattle.outside.specs.Counts.{HasRisen}
 use Rattle.outside.specs.Written.{Gains, GainsPrefix}
 use Rattle.elf_image.specs.declared.image.Image.{Image}
@@ -33,6 +33,7 @@ use Rattle.flow_points.specs.Refusals.{IsFlowRefusal}
 use Rattle.flow_points.specs.PointLists.{FlowPoints}
 use Rattle.flow_points.specs.declared.refusal.FlowRefusal.{FlowRefusal}
 use Rattle.affine_lift.specs.Tracking.{IsTrackRefusal}
+use Rattle.affine_lift.specs.declared.refusal.TrackRefusal as tracks
 use Rattle.affine_lift.specs.declared.refusal.TrackRefusal.{TrackRefusal}
 use Rattle.report_text.specs.declared.reports.Report.{Report}
 use Rattle.report_text.specs.Text.{nl, text_of}
@@ -77,7 +78,7 @@ report_text report certs = text_of report
 pub data IsAnswer (told : Report → List CertLine → List ℕ) (list bytes : List ℕ) : ℕ → List ℕ → Type 0 where
   refused : (status : ℕ) (text : List ℕ) → IsRefused bytes status text → IsAnswer told list bytes status text
   no_list : (status : ℕ) (text : List ℕ) (image : Image) (points : FlowPoints) (refusal : TrackRefusal) → length bytes ≤ most_bytes →
-      IsImageOf bytes image → HasPoints image points → IsTrackRefusal points.procedures list refusal →
+      IsImageOf bytes image → HasPoints image points → IsTrackRefusal points.procedures list refusal → refusal ≢ tracks.TheVariants.Memory →
       status ≡ 1 → text ≡ track_line refusal → IsAnswer told list bytes status text
   analysed : (status : ℕ) (text : List ℕ) (report : Report) (certs : List CertLine) → length bytes ≤ most_bytes →
       IsReportOver bytes list report certs → status ≡ 0 → text ≡ told report certs → IsAnswer told list bytes status text
