@@ -136,49 +136,26 @@ const BESIDE_SLOT_CODE: [u32; 8] = [
     0x008000EF, EBREAK, 0xFF010113, 0x00113423, 0x00012223, 0x00813083, 0x01010113, 0x00008067,
 ];
 
+const GIVEN_BACK: &str = "proc 0x10078\nsp never\nra never\nproc 0x10080\nsp granted\nra granted\n";
+
+const LOST: &str = "proc 0x10078\nsp never\nra never\nproc 0x10080\nsp granted\nra broken\n";
+
+const SAVED: &str =
+    "proc 0x10078\nsp never\nra never\ns0 never\nproc 0x1008c\nsp granted\nra granted\ns0 granted\nproc 0x100b4\nsp granted\nra granted\ns0 granted\n";
+
+const NEVER: &str = "proc 0x10078\nsp never\nproc 0x10080\nsp never\n";
+
 #[test]
 fn certificates_of_code_with_calls(rt: HostRuntime) -> Result<(), Fail> {
     let alloc = rt.alloc();
-    // The list, the code, and what stands under the line of each procedure.
-    let never = "sp never\nra never\n";
-    let given_back = "sp granted\nra granted\n";
-    let lost = "sp granted\nra broken\n";
-    let saved = "sp granted\nra granted\ns0 granted\n";
-    let cases: [(&str, &[u32], &[(&str, &str)]); 6] = [
-        (
-            "sp,ra,0x10080:-8",
-            &RECURSION_CODE,
-            &[("0x10078", never), ("0x10080", given_back)],
-        ),
-        (
-            "sp,ra",
-            &RECURSION_CODE,
-            &[("0x10078", never), ("0x10080", lost)],
-        ),
-        (
-            "sp,ra,0x10080:-8",
-            &INTO_SLOT_CODE,
-            &[("0x10078", never), ("0x10080", lost)],
-        ),
-        (
-            "sp,ra,0x10080:-8",
-            &BESIDE_SLOT_CODE,
-            &[("0x10078", never), ("0x10080", given_back)],
-        ),
-        (
-            "sp,ra,s0,a0,0x1008c:-8,0x1008c:-16",
-            &FRAME_CODE,
-            &[
-                ("0x10078", "sp never\nra never\ns0 never\n"),
-                ("0x1008c", saved),
-                ("0x100b4", saved),
-            ],
-        ),
-        (
-            "sp",
-            &NO_RETURN_CODE,
-            &[("0x10078", "sp never\n"), ("0x10080", "sp never\n")],
-        ),
+    // The list, the code, and what stands for its procedures.
+    let cases: [(&str, &[u32], &str); 6] = [
+        ("sp,ra,0x10080:-8", &RECURSION_CODE, GIVEN_BACK),
+        ("sp,ra", &RECURSION_CODE, LOST),
+        ("sp,ra,0x10080:-8", &INTO_SLOT_CODE, LOST),
+        ("sp,ra,0x10080:-8", &BESIDE_SLOT_CODE, GIVEN_BACK),
+        ("sp,ra,s0,a0,0x1008c:-8,0x1008c:-16", &FRAME_CODE, SAVED),
+        ("sp", &NO_RETURN_CODE, NEVER),
     ];
     for (list, code, procedures) in cases {
         let mut words = words_of(alloc, "cert f --track")?;
@@ -194,20 +171,12 @@ fn certificates_of_code_with_calls(rt: HostRuntime) -> Result<(), Fail> {
     Ok(())
 }
 
-// The certificates of a file, by what stands under the line of each procedure.
-fn certs_with(
-    alloc: Global,
-    list: &str,
-    procedures: &[(&str, &str)],
-) -> Result<Vec<u8>, AllocError> {
+// The certificates of a file, by what stands for its procedures.
+fn certs_with(alloc: Global, list: &str, procedures: &str) -> Result<Vec<u8>, AllocError> {
     let mut text = Vec::from_slice(alloc, b"affine-cert 1\ntrack ")?;
     text.extend_from_slice(list.as_bytes())?;
     text.extend_from_slice(b"\n")?;
-    for (entry, lines) in procedures {
-        for part in ["proc ", *entry, "\n", *lines] {
-            text.extend_from_slice(part.as_bytes())?;
-        }
-    }
+    text.extend_from_slice(procedures.as_bytes())?;
     text.extend_from_slice(b"end\n")?;
     Ok(text)
 }
