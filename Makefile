@@ -11,9 +11,9 @@ export FILE TRACK
 
 help:
 	@echo 'make demo                       the report of $(EXAMPLE)    under a minute'
-	@echo 'make analyse FILE=F TRACK=LIST  the report of F for the names of LIST          under a minute'
-	@echo 'make cert FILE=F TRACK=LIST     which registers its procedures give back        under a minute'
-	@echo 'make list FILE=F                the code of F that can be reached              under a minute'
+	@echo 'make analyse FILE=F TRACK=LIST  the report of F for the names of LIST          under a minute for small files'
+	@echo 'make cert FILE=F TRACK=LIST     which registers its procedures give back        under a minute for small files'
+	@echo 'make list FILE=F                the code of F that can be reached              under a minute for small files'
 	@echo 'make build                      proves and builds the program                  half an hour or more where nothing is kept'
 	@echo 'make test                       the whole test, rt ci                          an hour or more where nothing is kept'
 	@echo
