@@ -25,6 +25,11 @@ get_or_at_lead [] within = absurd (omega arith)
 get_or_at_lead (zero ∷ xs) within = rw add-one (get_or_at_lead xs (omega arith))
 get_or_at_lead (suc x ∷ xs) within = rw (lead-other x xs) (λ e. omega arith)
 
+pub get_or_past : (xs : List ℕ) (k : ℕ) → length xs ≤ k → get_or xs k 0 ≡ 0
+get_or_past [] k past = refl
+get_or_past (x ∷ xs) zero past = absurd (omega arith)
+get_or_past (x ∷ xs) (suc k) past = get_or_past xs k (omega arith)
+
 -- a position with a word that isn't 0, and none such before it, is the lead
 pub lead_from_index : (xs : List ℕ) (i : ℕ) → i < length xs → get_or xs i 0 ≢ 0
     → ((k : ℕ) → k < i → get_or xs k 0 ≡ 0) → lead xs ≡ i
@@ -45,6 +50,13 @@ lead-after (suc x ∷ xs) (suc i) short zeros = let e : suc x ≡ 0 = zeros 0 (o
 pub lead-zeros : (n : ℕ) → lead (replicate n 0) ≡ n
 lead-zeros zero = refl
 lead-zeros (suc n) = omega (arith, lead-zeros n)
+
+pub zeros_from_lead : (n : ℕ) (xs : List ℕ) → length xs ≡ n → n ≤ lead xs → xs ≡ replicate n 0
+zeros_from_lead zero [] long past = refl
+zeros_from_lead zero (x ∷ xs) long past = absurd (omega arith)
+zeros_from_lead (suc n) [] long past = absurd (omega arith)
+zeros_from_lead (suc n) (zero ∷ xs) long past = ap (λ ys. 0 ∷ ys) (zeros_from_lead n xs (omega arith) (omega arith))
+zeros_from_lead (suc n) (suc x ∷ xs) long past = absurd (omega (arith, lead-other x xs))
 
 -- the leads of sums and multiples: not before those of their parts
 pub sum_zeros : (x c y : ℕ) → x ≡ 0 → y ≡ 0 → word (x + c * y) ≡ 0

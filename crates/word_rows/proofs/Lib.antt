@@ -5,6 +5,9 @@ pub mod Leads
 pub mod Units
 pub mod Laws
 mod ByIndex
+mod Vectors
+mod Blocks
+mod Covered
 mod Newton
 mod Zeros
 pub mod Inverses

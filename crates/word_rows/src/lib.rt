@@ -12,6 +12,8 @@
 //! ```
 #![tactic(auto)]
 
+mod lanes;
+mod masks;
 mod rows;
 mod slices;
 #[cfg(test)]

@@ -8,7 +8,7 @@ use std::process::Abort;
 const HALF: u64 = 1 << 63;
 
 /// With the word 2^63 + i at each position i: three times that row wraps to 2^63 + 3 * i, and its
-/// words add up to the given sum.
+/// words add up to the given sum. A row with its last word alone leads there.
 fn sums_are<const N: usize>(rt: &impl Abort, sum: u64)
     requires some { 1 ≤ N }
     requires within { N ≤ 512 }
@@ -23,6 +23,9 @@ fn sums_are<const N: usize>(rt: &impl Abort, sum: u64)
         assert_eq!(rt; thrice.get(i), HALF + 3 * i as u64);
     }
     assert_eq!(rt; row.dot(&Row::from_words(&[1; N])), sum);
+    row.scale(3);
+    assert_eq!(rt; row, thrice);
+    assert_eq!(rt; Row::<N>::zero().with(N - 1, 5).lead(), Some(N - 1));
 }
 
 #[test]

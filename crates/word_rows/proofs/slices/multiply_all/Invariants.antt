@@ -1,9 +1,10 @@
-use Rattle.std.proofs.Common.{◌≡◌, ◌*◌, ◌<◌, ◌≤◌, ℕ, get_or}
+use Rattle.std.proofs.Common.{◌*◌, get_or}
 use Rattle.word_rows.specs.Words.{word}
+use Rattle.word_rows.proofs.Blocks.{DoneTo}
 use Rattle.word_rows.proofs.slices.multiply_all.Given as goal
 
-abbrev pub invariant-loop-word : goal.invariant-loop-word
-invariant-loop-word l = record {
-  done : (k : ℕ) → k < l.word-index → get_or l.words k 0 ≡ word (l.c * get_or l.initial.words k 0);
-  untouched : (k : ℕ) → l.word-index ≤ k → get_or l.words k 0 ≡ get_or l.initial.words k 0;
-}
+abbrev pub invariant-loop-chunk : goal.invariant-loop-chunk
+invariant-loop-chunk l = DoneTo (λ k. word (l.c * get_or l.fn.words k 0)) (8 * l.chunk) l.fn.words l.words
+
+abbrev pub invariant-loop-at : goal.invariant-loop-at
+invariant-loop-at l = DoneTo (λ k. word (l.c * get_or l.fn.words k 0)) l.at l.fn.words l.words
