@@ -1,0 +1,20 @@
+mod Lists
+mod Edges
+mod Procs
+mod Following
+mod Ending
+mod Along
+mod Forward
+mod Back
+mod Inner
+mod Formed
+mod Tallied
+mod Walking
+mod Alone
+mod Placed
+mod Numbering
+mod HeadsTell
+mod Building
+mod Imaged
+mod InnerModules
+pub mod Lemmas

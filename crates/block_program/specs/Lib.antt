@@ -1,0 +1,11 @@
+pub mod Chains
+pub mod BlockPrograms
+pub mod Laws
+pub mod HeadLaws
+pub mod Tallies
+pub mod EdgesInto
+pub mod Numbers
+pub mod Ends
+pub mod Pushes
+pub mod InnerLaws
+pub mod Built

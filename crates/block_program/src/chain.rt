@@ -1,0 +1,94 @@
+//! The chain of inner nodes behind a node.
+
+ghost use Rattle.std.specs.Prelude.{◌≡◌, ◌<◌, ◌++◌, All, length, IfOk, OnOk};
+ghost use Rattle.affine_prog.specs.Programs.{IsWellFormed};
+ghost use Rattle.block_program.specs.Chains.{Chain};
+ghost use Rattle.block_program.specs.BlockPrograms.{behind};
+ghost use Rattle.block_program.specs.EdgesInto.{AreEdgesInto, assigns_behind, assigns_of};
+
+use affine_prog::{Assign, Kind, Program};
+use sqlite_items::Items;
+use std::alloc::{AllocError, Global};
+
+/// The head from which a chain leads to a node, and the chain's edges, the last one first.
+pub(crate) fn behind(
+    alloc: Global,
+    program: &Program,
+    edges_into: &[Option<u32>],
+    node: u32,
+) -> Result<(u32, Vec<u32>), AllocError>
+    requires formed { IsWellFormed program.now }
+    requires edges_into { AreEdgesInto program.now edges_into.now }
+    requires node { node < program.now.nodes }
+    ensures leads { IfOk result (λ r. Chain program.now r.0 node (assigns_behind program.now.edges r.1.items)) }
+    ensures edges { IfOk result (λ r. All (λ k. k < length program.now.edges) r.1.items) }
+{
+    let mut path = Vec::new(alloc);
+    let mut at = node;
+    while let Some(k) = edges_into[at as usize] {
+        path.push(k)?;
+        at = program.edges.as_slice()[k as usize].from;
+    }
+    Ok((at, path))
+}
+
+/// Puts assignments at the end of a list.
+fn push_all(made: &mut Items<Assign>, more: &[Assign]) -> Result<(), AllocError>
+    ensures { OnOk result (made.new ≡ made.old ++ more.now) }
+{
+    for assign in more {
+        made.push(*assign)?;
+    }
+    Ok(())
+}
+
+/// The assignments of a kind.
+pub(crate) fn assigns_of(kind: &Kind) -> &[Assign]
+    ensures { result.now ≡ assigns_of kind.now }
+{
+    match kind {
+        Kind::Do(assigns) => assigns.as_slice(),
+        Kind::Call { before, .. } => before.as_slice(),
+    }
+}
+
+/// What the edges of a chain assign, the last edge given first, and then these assignments.
+fn assigns_along(
+    alloc: Global,
+    program: &Program,
+    path: &[u32],
+    own: &[Assign],
+) -> Result<Items<Assign>, AllocError>
+    requires { All (λ k. k < length program.now.edges) path.now }
+    ensures { IfOk result (λ made. made ≡ assigns_behind program.now.edges path.now ++ own.now) }
+{
+    let mut made = Items::new(alloc);
+    let mut left = path.len();
+    while left > 0 {
+        left -= 1;
+        let edge = &program.edges.as_slice()[path[left] as usize];
+        push_all(&mut made, assigns_of(&edge.kind))?;
+    }
+    push_all(&mut made, own)?;
+    Ok(made)
+}
+
+/// The kind with a chain's assignments before its own.
+pub(crate) fn kind_behind(
+    alloc: Global,
+    program: &Program,
+    path: &[u32],
+    kind: &Kind,
+) -> Result<Kind, AllocError>
+    requires { All (λ k. k < length program.now.edges) path.now }
+    ensures { IfOk result (λ made. made ≡ behind (assigns_behind program.now.edges path.now) kind.now) }
+{
+    let assigns = assigns_along(alloc, program, path, assigns_of(kind))?;
+    match kind {
+        Kind::Do(_) => Ok(Kind::Do(assigns)),
+        Kind::Call { callee, .. } => Ok(Kind::Call {
+            callee: *callee,
+            before: assigns,
+        }),
+    }
+}
