@@ -7,11 +7,12 @@
 //! push_dec(&mut text, 65660)?; // 65660
 //! push_hex(&mut text, 65660)?; // 0x1007c
 //! push_hex8(&mut text, 0x97)?; // 00000097
+//! push_hex4(&mut text, 0x97)?; // 0097
 //! ```
 #![tactic(auto)]
 
 ghost use Rattle.std.specs.Prelude.{◌≡◌, ℕ, ◌<◌, ◌^◌, ◌++◌, OnOk, OnErr};
-ghost use Rattle.number_text.specs.Numerals.{dec, hex, hex_digit, hex8};
+ghost use Rattle.number_text.specs.Numerals.{dec, hex, hex_digit, hex4, hex8};
 
 use std::alloc::AllocError;
 
@@ -43,6 +44,20 @@ pub fn push_hex8(text: &mut Vec<u8>, word: u32) -> Result<(), AllocError>
         digit_at(word, 6),
         digit_at(word, 5),
         digit_at(word, 4),
+        digit_at(word, 3),
+        digit_at(word, 2),
+        digit_at(word, 1),
+        digit_at(word, 0),
+    ];
+    text.extend_from_slice(&digits)
+}
+
+/// Appends the last four lower-case hexadecimal digits of `word`, without `0x`.
+pub fn push_hex4(text: &mut Vec<u8>, word: u32) -> Result<(), AllocError>
+    ensures ok { OnOk result (text.new.items ≡ text.old.items ++ hex4 word) }
+    ensures err { OnErr result (text.new.items ≡ text.old.items) }
+{
+    let digits = [
         digit_at(word, 3),
         digit_at(word, 2),
         digit_at(word, 1),
@@ -91,7 +106,9 @@ mod tests {
         push_hex(&mut text, 0x1007c)?;
         text.push(b' ')?;
         push_hex8(&mut text, 0x00c0_80e7)?;
-        let wanted = b"0 18446744073709551615 0x0 0x1007c 00c080e7";
+        text.push(b' ')?;
+        push_hex4(&mut text, 0x0c9a)?;
+        let wanted = b"0 18446744073709551615 0x0 0x1007c 00c080e7 0c9a";
         assert_eq!(rt; text.as_slice(), wanted.as_slice());
         Ok(())
     }

@@ -1,0 +1,11 @@
+pub mod Cuts
+pub mod Digits
+pub mod NamesTold
+pub mod TermTexts
+pub mod Placed
+pub mod Rows
+pub mod SumsGrow
+pub mod WordsRead
+pub mod FrontsRead
+pub mod Listed
+pub mod LinesRead

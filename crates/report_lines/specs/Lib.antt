@@ -1,0 +1,9 @@
+pub mod Parts
+pub mod NameTexts
+pub mod Terms
+pub mod Relations
+pub mod Sums
+pub mod Places
+pub mod Fronts
+pub mod Lines
+pub mod Tracks
