@@ -1,0 +1,3 @@
+mod CodeAdded
+mod LowBytes
+mod Sizes
