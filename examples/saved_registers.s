@@ -3,6 +3,8 @@
 #
 #     llvm-mc --triple=riscv64 --filetype=obj saved_registers.s -o saved_registers.o
 #     ld.lld --nmagic --strip-all -Ttext=0x10000 saved_registers.o -o saved_registers.elf
+#
+# With `--mattr=+c` at the first command it is saved_registers_compressed.elf.
 
     .globl _start
     .text

@@ -1,17 +1,18 @@
 mod OffsetWords
-mod FirstPlaces
-mod Nodes
+pub mod FirstPlaces
+pub mod Nodes
 mod PositionSets
-mod Owners
-mod EdgesFormed
+pub mod Owners
+pub mod EdgesFormed
 mod Formed
-mod PositionBits
-mod EffectsSeen
-mod Procedures
+pub mod PositionBits
+pub mod EffectsSeen
+pub mod Procedures
 mod Numerals
 mod NamesRead
 mod ItemsNamed
-mod StoresWrite
+pub mod StoresWrite
 mod SlotsWritten
 mod VisibleSeen
-mod OneProgram
+pub mod OneProgram
+pub mod Cited

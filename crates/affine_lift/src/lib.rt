@@ -23,9 +23,13 @@ mod program;
 mod refusal;
 mod registers;
 mod store;
+#[cfg(test)]
+mod tests;
 mod value;
 
 pub use laws::{programs_are_one, visible_names_are_seen};
 pub use names::read_tracked;
 pub use program::{lift, slot_writes};
 pub use refusal::TrackRefusal;
+pub use store::FrameStore;
+pub use value::{Term, Value};

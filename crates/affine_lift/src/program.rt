@@ -2,7 +2,7 @@
 
 ghost use Rattle.std.specs.Prelude.{◌≡◌, ◌≤◌, ◌<◌, length, map, position, slice_get, ◌==◌, IfOk, IfSome, IsSomeAnd};
 ghost use Rattle.affine_prog.specs.Programs.{edge, IsWellFormed};
-ghost use Rattle.flow_points.specs.Walks.{point};
+ghost use Rattle.flow_points.specs.Walks.{most_points, point};
 ghost use Rattle.frame_offsets.specs.Frames.{AreOffsetsOf, offset_at};
 ghost use Rattle.affine_lift.specs.Effects.{effect_of};
 ghost use Rattle.affine_lift.specs.Lifting.{node_of, number_of, exit_of, proc_of, owners_in, edges_by, edges_along, offset_from, IsLifted, WritesSlots};
@@ -72,7 +72,7 @@ fn node_of(points: &Points, proc_entry: u64, address: u64) -> u32
 // The number of the procedure with this entry.
 fn number_of(points: &Points, entry: u64) -> u32
     ensures number { result ≡ number_of points.now entry }
-    ensures few { result ≤ 4096 }
+    ensures few { result ≤ most_points }
 {
     points.known();
     match place_in(points.procedures(), entry) {

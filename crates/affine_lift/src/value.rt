@@ -2,7 +2,7 @@
 
 /// A factor times a register.
 #[derive(Clone, Copy, Debug, PartialEq, Eq)]
-pub(crate) struct Term {
+pub struct Term {
     pub factor: u64,
     pub register: u8,
 }
@@ -10,7 +10,7 @@ pub(crate) struct Term {
 /// The value of a result: a sum of at most two multiples of registers and a constant, the word of the tracked name at
 /// this position, or any word. A term that isn't there is 0 times register zero.
 #[derive(Clone, Copy, Debug, PartialEq, Eq)]
-pub(crate) enum Value {
+pub enum Value {
     Linear {
         first: Term,
         second: Term,

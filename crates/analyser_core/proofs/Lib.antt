@@ -3,3 +3,8 @@ mod PointsTold
 mod LinesRead
 mod WordsTold
 mod Worked
+mod RunsTold
+mod NodeStates
+mod Counted
+mod InnerSoFar
+mod Answered

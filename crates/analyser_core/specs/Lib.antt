@@ -1,7 +1,10 @@
+pub mod Heads
 pub mod Accepted
 pub mod Certified
 pub mod Reports
 pub mod Work
+pub mod States
 pub mod Told
 pub mod ReadOff
 pub mod Made
+pub mod MachineRuns

@@ -10,7 +10,8 @@
 --                                       the file's bytes and the list are accepted, with these points and names, and this is
 --                                       the program that is lifted from them
 --   IsReportOver bytes list report certs
---                                       so they are, and the report and the certificates are those of the program
+--                                       so they are, the program has no more heads than it may, and the report and the certificates
+--                                       are those of the program
 -- A report keeps that the rows of each of its points are reduced, so that there is one such report.
 use Rattle.std.specs.Prelude.{◌≡◌, ℕ, List, Some, map, length, slice_get}
 use Rattle.row_modules.specs.Modules.{Generates}
@@ -25,6 +26,7 @@ use Rattle.report_text.specs.declared.points.PointState.{PointState}
 use Rattle.report_text.specs.declared.points.PointState.TheVariants.{Unreached, Rows}
 use Rattle.report_text.specs.declared.reports.Report.{Report}
 use Rattle.analyser_core.specs.Accepted.{IsAcceptedAs}
+use Rattle.analyser_core.specs.Heads.{HasFewHeads}
 use Rattle.analyser_core.specs.Certified.{AreCertificatesOf, told_in, told_of}
 use Rattle.analyser_core.specs.declared.cert_line.CertLine.{CertLine}
 
@@ -55,4 +57,5 @@ pub record IsReportOver (bytes list : List ℕ) (report : Report) (certs : List 
   pub names : List Name
   pub program : Program
   pub lifted : IsLiftedFrom bytes list points names program
+  pub few_heads : HasFewHeads program
   pub is_report : IsReportOf program points names report certs

@@ -1,27 +1,38 @@
 //! The analysis.
 
-ghost use Rattle.std.specs.Prelude.{◌≡◌, ◌<◌, IfOk, IfErr, MatchResult};
+ghost use Rattle.std.specs.Prelude.{◌≡◌, ◌<◌, ◌≤◌, IfOk, IfErr, MatchResult};
+ghost use Rattle.affine_prog.specs.Programs.{IsWellFormed};
+ghost use Rattle.affine_lift.specs.Lifting.{IsLifted};
+ghost use Rattle.block_program.specs.Numbers.{AreBlocks};
+ghost use Rattle.analyser_core.specs.Heads.{most_heads};
 ghost use Rattle.analyser_core.specs.Accepted.{IsRefusal};
 ghost use Rattle.analyser_core.specs.Reports.{IsReportOver};
 ghost use Rattle.analyser_core.specs.Work.{IsWithinWork, CountsStates};
-ghost use Rattle.analyser_core.specs.Made.{IsMade, IsMadeOf, HasWorked};
+ghost use Rattle.analyser_core.specs.MachineRuns.{TellsOfRuns};
+ghost use Rattle.analyser_core.specs.Made.{IsMade, IsMadeOf, IsMadeRefusal, HasWorked};
 
 use crate::Refusal;
 use crate::accept::accepted;
 use crate::cert_line::CertLine;
 use crate::certify::{certify, words_of};
+use crate::states::inner_states;
 use crate::tell::{known_states, told};
 use affine_lift::lift;
+use affine_prog::Program;
+use block_program::{Blocks, contract};
 use call_summaries::exits;
 use flow_points::Points;
 use frame_offsets::offsets;
-use lead_basis::Steps;
+use lead_basis::{Memory, Steps};
 use reach_modules::solve::reach_by_exits;
 use report_text::{Report, Tracked};
 use sqlite_items::Items;
 use std::alloc::Global;
 use std::marker::Brand;
 use std::sync::ledger::{Blank, Ledger};
+
+/// A program may have this many heads, nodes where bases of maps are kept.
+const MOST_HEADS: u32 = 4096;
 
 /// What an analysis found: the report, and the certificates that it tells.
 #[derive(Debug, Drop)]
@@ -31,7 +42,7 @@ pub struct Analysis {
 }
 
 /// The analysis of a file's bytes for the names of a list; or the first cause why there is none. The
-/// steps are placements of rows in the bases of the program's nodes.
+/// steps are placements of rows in the bases of the program's nodes, of maps at its heads alone.
 pub fn analyse<L: Ledger>(
     alloc: Global,
     bytes: &[u8],
@@ -39,6 +50,7 @@ pub fn analyse<L: Ledger>(
     steps: &mut Steps<L>,
 ) -> Result<Analysis, Refusal>
     ensures report { MatchResult result (λ a. IsReportOver bytes.now track.now a.report a.certs) (IsRefusal bytes.now track.now) }
+    ensures runs { IfOk result (λ a. TellsOfRuns bytes.now track.now a.report a.certs) }
     ensures bounded { IsWithinWork bytes.now track.now steps.old steps.new }
     ensures counts_states { IfOk result (λ a. CountsStates bytes.now track.now steps.old steps.new) }
 {
@@ -71,7 +83,7 @@ fn analysis_from<L: Ledger>(
     requires parts { blank.parts ≡ L.parts }
     requires some { 0 < blank.parts }
     ensures made { IfOk result (λ a. IsMadeOf points.now tracked.names a.report a.certs) }
-    ensures refusal { IfErr result (λ refusal. refusal ≡ Refusal.Memory) }
+    ensures refusal { IfErr result (IsMadeRefusal points.now tracked.names) }
 {
     let mut steps = Steps::<L>::new(blank);
     analysis_of(alloc, points, tracked, &mut steps)
@@ -85,18 +97,52 @@ fn analysis_of<L: Ledger>(
     steps: &mut Steps<L>,
 ) -> Result<Analysis, Refusal>
     ensures made { IfOk result (λ a. IsMade points.now tracked.names steps.old steps.new a.report a.certs) }
-    ensures refusal { IfErr result (λ refusal. refusal ≡ Refusal.Memory) }
+    ensures refusal { IfErr result (IsMadeRefusal points.now tracked.names) }
     ensures worked { HasWorked points.now tracked.names steps.old steps.new }
 {
     let offsets = offsets(alloc, points)?;
     let program = lift(alloc, points, &offsets, &tracked)?;
-    let exits = exits(alloc, &program, steps)?;
-    let reached = reach_by_exits(alloc, &program, exits.bases(), steps)?;
-    known_states(&reached, program.nodes);
+    let blocks = contract(alloc, &program)?;
+    if blocks.small().nodes > MOST_HEADS {
+        return Err(Refusal::Heads(MOST_HEADS));
+    }
+    let analysis = analysis_by(alloc, points, tracked, &program, &blocks, steps)?;
+    Ok(analysis)
+}
+
+// The analysis of points for names, by their program and its block program.
+fn analysis_by<L: Ledger>(
+    alloc: Global,
+    points: &Points,
+    tracked: Tracked,
+    program: &Program,
+    blocks: &Blocks,
+    steps: &mut Steps<L>,
+) -> Result<Analysis, Memory>
+    requires lifted { IsLifted points.now tracked.names program.now }
+    requires formed { IsWellFormed program.now }
+    requires blocks { AreBlocks program.now blocks.now }
+    requires few { blocks.now.small.nodes ≤ most_heads }
+    ensures made { IfOk result (λ a. IsMade points.now tracked.names steps.old steps.new a.report a.certs) }
+    ensures worked { HasWorked points.now tracked.names steps.old steps.new }
+{
+    let small = blocks.small();
+    let exits = exits(alloc, small, steps)?;
+    let reached = reach_by_exits(alloc, small, exits.bases(), steps)?;
+    known_states(&reached, small.nodes);
+    let inner = inner_states(alloc, program, blocks, &reached, steps)?;
     points.known();
-    let certs = certify(alloc, points, &tracked, &program, exits.bases())?;
+    let certs = certify(alloc, points, &tracked, program, exits.bases())?;
     let words = words_of(alloc, certs.as_slice())?;
-    let points = told(alloc, points, &tracked, &program, &reached)?;
+    let points = told(
+        alloc,
+        points,
+        &tracked,
+        program,
+        blocks,
+        &reached,
+        inner.as_slice(),
+    )?;
     Ok(Analysis {
         report: Report {
             version: 2,

@@ -19,7 +19,7 @@ use lead_basis::Memory;
 use map_modules::MatBasis;
 use report_text::{CertWord, Name, ReportCert, Tracked, is_certified};
 use sqlite_items::Items;
-use std::alloc::{AllocError, Global};
+use std::alloc::Global;
 
 /// The certificates of the program's procedures, from the bases at their exits.
 pub(crate) fn certify(
@@ -98,17 +98,21 @@ fn append(certs: &mut Items<CertLine>, lines: Items<CertLine>) -> Result<(), Mem
 }
 
 /// The certificates as a report tells them.
-pub(crate) fn words_of(alloc: Global, certs: &[CertLine]) -> Result<Items<ReportCert>, AllocError>
+pub(crate) fn words_of(alloc: Global, certs: &[CertLine]) -> Result<Items<ReportCert>, Memory>
     requires { All (λ line. IsTrue (is_certified line.register)) certs.now }
     ensures { IfOk result (λ words. map told_of words ≡ map told_in certs.now) }
 {
     let mut words = Items::new(alloc);
     for line in certs {
-        words.push(ReportCert {
+        let word = ReportCert {
             proc_entry: line.proc_entry,
             register: line.register,
             word: word_of(line.cert),
-        })?;
+        };
+        match words.push(word) {
+            Ok(()) => {}
+            Err(_) => return Err(Memory),
+        }
     }
     Ok(words)
 }

@@ -16,10 +16,13 @@ mod accept;
 mod analysis;
 mod cert_line;
 mod certify;
+mod laws;
 mod refusal;
+mod states;
 mod tell;
 
 pub use accept::{image_of, points_of};
 pub use analysis::{Analysis, analyse, analyse_uncounted};
 pub use cert_line::CertLine;
+pub use laws::reports_tell_of_runs;
 pub use refusal::Refusal;

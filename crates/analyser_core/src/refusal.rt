@@ -22,6 +22,9 @@ pub enum Refusal {
     /// The track list is refused.
     #[error("{0}")]
     Track(TrackRefusal),
+    /// The program has more heads than this.
+    #[error("more than {0} heads")]
+    Heads(u32),
     /// Want of memory.
     #[error("out of memory")]
     Memory,

@@ -6,10 +6,14 @@ ghost use Rattle.row_modules.specs.Positions.{has};
 ghost use Rattle.affine_prog.specs.Programs.{IsWellFormed};
 ghost use Rattle.affine_prog.specs.Spans.{AreReached};
 ghost use Rattle.affine_lift.specs.Lifting.{IsLifted};
+ghost use Rattle.block_program.specs.Numbers.{AreBlocks};
+ghost use Rattle.analyser_core.specs.States.{AreInnerStates};
 ghost use Rattle.analyser_core.specs.Told.{told_positions, Relates, AreTold};
 
+use crate::states::states_at;
 use affine_lift::visible_names_are_seen;
 use affine_prog::{Program, paths_keep_states, relations_annihilate_states};
+use block_program::Blocks;
 use flow_points::Points;
 use lead_basis::{Basis, Memory};
 use reach_modules::Reach;
@@ -18,17 +22,21 @@ use report_text::{PointRows, PointState, Tracked};
 use sqlite_items::Items;
 use std::alloc::Global;
 
-/// Each point with the relations of the states that reach it.
+/// Each point with the relations of the states that reach it, which those of the block program and of the inner nodes tell.
 pub(crate) fn told(
     alloc: Global,
     points: &Points,
     tracked: &Tracked,
     program: &Program,
+    blocks: &Blocks,
     reached: &Reach,
+    inner: &[Basis<17>],
 ) -> Result<Items<PointRows>, Memory>
     requires formed { IsWellFormed program.now }
     requires lifted { IsLifted points.now tracked.now.names program.now }
-    requires reached { AreReached program.now reached.now }
+    requires blocks { AreBlocks program.now blocks.now }
+    requires reached { AreReached blocks.now.small reached.now }
+    requires inner { AreInnerStates program.now inner.now }
     ensures told { IfOk result (AreTold program.now points.now tracked.now.names) }
     ensures count { IfOk result (λ told. length told ≡ length points.now.points) }
 {
@@ -39,7 +47,7 @@ pub(crate) fn told(
     let mut told = Items::new(alloc);
     for u in 0..points.count() {
         let point = points.point(u);
-        let states = reached.at(u);
+        let states = states_at(blocks, reached, inner, u);
         states.known();
         let state = state_of(alloc, states, visible_at(program, u))?;
         let tells = PointRows {

@@ -1,7 +1,7 @@
 -- Calls over files, or over a sink, whose counts don't rise.
 use Rattle.std.proofs.Common.{◌≡◌, ◌≢◌, ℕ, ◌<◌, inl, inr, List, Option, Some, None, arith}
 use Rattle.outside.specs.Counts.{HasRisen}
-use Rattle.analyser_main.specs.Answers.{Call, IsRefused, too_long, no_image, bad_flow, report_text, IsAnswer, refused, no_list, analysed, IsListing, listed, IsAnswerOver, IsUsage, Says, whole, cut, Ends, answered, read_fault, no_memory, IsCarriedOut}
+use Rattle.analyser_main.specs.Answers.{Call, IsRefused, too_long, no_image, bad_flow, report_text, IsAnswer, refused, no_list, crowded, analysed, IsListing, listed, IsAnswerOver, IsUsage, Says, whole, cut, Ends, answered, read_fault, no_memory, IsCarriedOut}
 use Rattle.analyser_main.specs.Orders.{Order, Usage, Analyse, Certify, ListCode}
 use Rattle.analyser_main.specs.CertsText.{certs_text}
 use Rattle.analyser_core.specs.declared.cert_line.CertLine.{CertLine}
@@ -33,6 +33,7 @@ IsLow Is = (status : ℕ) (text : List ℕ) → Is status text → status < 3
 answer_low : (told : Report → List CertLine → List ℕ) (list bytes : List ℕ) → IsLow (IsAnswer told list bytes)
 answer_low told list bytes status text (refused status' text' is) = let low = refused_status bytes status text is in omega arith
 answer_low told list bytes status text (no_list status' text' image points refusal short of has why other is line) = omega arith
+answer_low told list bytes status text (crowded status' text' short many is line) = omega arith
 answer_low told list bytes status text (analysed status' text' report certs short what is line) = omega arith
 
 listing_low : (bytes : List ℕ) → IsLow (IsListing bytes)

@@ -28,6 +28,7 @@ use Rattle.outside.specs.Counts.{HasRisen}
 use Rattle.outside.specs.Written.{Gains, GainsPrefix}
 use Rattle.elf_image.specs.declared.image.Image.{Image}
 use Rattle.elf_image.specs.declared.refusal.ElfRefusal.{ElfRefusal}
+use Rattle.elf_image.specs.Fields.{unit_of}
 use Rattle.elf_image.specs.Refusals.{refusal_of}
 use Rattle.flow_points.specs.Refusals.{IsFlowRefusal}
 use Rattle.flow_points.specs.PointLists.{FlowPoints}
@@ -37,11 +38,12 @@ use Rattle.affine_lift.specs.declared.refusal.TrackRefusal as tracks
 use Rattle.affine_lift.specs.declared.refusal.TrackRefusal.{TrackRefusal}
 use Rattle.report_text.specs.declared.reports.Report.{Report}
 use Rattle.report_text.specs.Text.{nl, text_of}
-use Rattle.analyser_core.specs.Accepted.{most_bytes, IsImageOf, HasPoints}
+use Rattle.analyser_core.specs.Heads.{most_heads}
+use Rattle.analyser_core.specs.Accepted.{most_bytes, IsImageOf, HasPoints, IsCrowded}
 use Rattle.analyser_core.specs.Reports.{IsReportOver}
 use Rattle.analyser_core.specs.declared.cert_line.CertLine.{CertLine}
 use Rattle.analyser_main.specs.Orders.{Order, Usage, Analyse, Certify, ListCode}
-use Rattle.analyser_main.specs.Lines.{elf_line, flow_line, track_line, too_long_line}
+use Rattle.analyser_main.specs.Lines.{elf_line, flow_line, track_line, heads_line, too_long_line}
 use Rattle.analyser_main.specs.PointsList.{list_text}
 use Rattle.analyser_main.specs.CertsText.{certs_text}
 
@@ -70,7 +72,7 @@ pub data IsRefused (bytes : List ℕ) : ℕ → List ℕ → Type 0 where
   no_image : (status : ℕ) (text : List ℕ) (refusal : ElfRefusal) → length bytes ≤ most_bytes → refusal_of bytes ≡ Some refusal →
       status ≡ 1 → text ≡ elf_line refusal → IsRefused bytes status text
   bad_flow : (status : ℕ) (text : List ℕ) (image : Image) (refusal : FlowRefusal) → length bytes ≤ most_bytes → IsImageOf bytes image →
-      IsFlowRefusal image refusal → status ≡ 1 → text ≡ flow_line refusal → IsRefused bytes status text
+      IsFlowRefusal image refusal → status ≡ 1 → text ≡ flow_line (unit_of bytes) refusal → IsRefused bytes status text
 
 abbrev pub report_text : Report → List CertLine → List ℕ
 report_text report certs = text_of report
@@ -80,6 +82,8 @@ pub data IsAnswer (told : Report → List CertLine → List ℕ) (list bytes : L
   no_list : (status : ℕ) (text : List ℕ) (image : Image) (points : FlowPoints) (refusal : TrackRefusal) → length bytes ≤ most_bytes →
       IsImageOf bytes image → HasPoints image points → IsTrackRefusal points.procedures list refusal → refusal ≢ tracks.TheVariants.Memory →
       status ≡ 1 → text ≡ track_line refusal → IsAnswer told list bytes status text
+  crowded : (status : ℕ) (text : List ℕ) → length bytes ≤ most_bytes → IsCrowded bytes list → status ≡ 1 → text ≡ heads_line most_heads →
+      IsAnswer told list bytes status text
   analysed : (status : ℕ) (text : List ℕ) (report : Report) (certs : List CertLine) → length bytes ≤ most_bytes →
       IsReportOver bytes list report certs → status ≡ 0 → text ≡ told report certs → IsAnswer told list bytes status text
 

@@ -1,17 +1,21 @@
 -- The list of points, as text.
 --
+--   word_text word length       the digits of an instruction word of this length: four for two bytes, else eight
 --   code_text code              the address, the word and the instruction of a point
 --   codes_text before points    the points, each procedure's line before its first point; before is the
 --                               procedure of the point before them
 --   list_text points            the whole text
-use Rattle.std.specs.Prelude.{ℕ, List, [], ◌∷◌, ◌++◌, Option, Some, None, codes}
-use Rattle.number_text.specs.Numerals.{hex, hex8}
+use Rattle.std.specs.Prelude.{ℕ, ◌==◌, if◌then◌else◌, List, [], ◌∷◌, ◌++◌, Option, Some, None, codes}
+use Rattle.number_text.specs.Numerals.{hex, hex4, hex8}
 use Rattle.rv_text.specs.Text.{instr_text}
 use Rattle.report_text.specs.Text.{nl, opening_text}
 use Rattle.flow_points.specs.declared.code_points.CodePoint.{CodePoint}
 
+abbrev pub word_text : ℕ → ℕ → List ℕ
+word_text word length = if length == 2 then hex4 word else hex8 word
+
 abbrev pub code_text : CodePoint → List ℕ
-code_text code = hex code.point.address ++ codes " " ++ hex8 code.word ++ codes " " ++ instr_text code.instr ++ nl
+code_text code = hex code.point.address ++ codes " " ++ word_text code.word code.length ++ codes " " ++ instr_text code.instr ++ nl
 
 abbrev pub codes_text : Option ℕ → List CodePoint → List ℕ
 codes_text before [] = []

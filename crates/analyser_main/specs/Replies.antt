@@ -14,7 +14,7 @@ use Rattle.elf_image.specs.declared.image.Image.{Image}
 use Rattle.flow_points.specs.Refusals.{IsFlowRefusal}
 use Rattle.analyser_core.specs.Accepted.{IsImageOf}
 use Rattle.analyser_core.specs.declared.refusal.Refusal.{Refusal}
-use Rattle.analyser_core.specs.declared.refusal.Refusal.TheVariants.{Elf, Flow, Track, Memory}
+use Rattle.analyser_core.specs.declared.refusal.Refusal.TheVariants.{Elf, Flow, Track, Heads, Memory}
 use Rattle.analyser_main.specs.Answers.{read_fault_text, no_memory_text, Says}
 
 abbrev pub AnswersWith : (ℕ → List ℕ → Type 0) → Type 0 → Reply → Type 0
@@ -30,6 +30,7 @@ abbrev pub IsListRefusal : List ℕ → Refusal → Type 0
 IsListRefusal bytes (Elf refusal) = refusal_of bytes ≡ Some refusal
 IsListRefusal bytes (Flow refusal) = (image : Image) × IsImageOf bytes image × IsFlowRefusal image refusal
 IsListRefusal bytes (Track refusal) = ⊥
+IsListRefusal bytes (Heads limit) = ⊥
 IsListRefusal bytes Memory = Unit {0}
 
 abbrev pub SaysReply : Reply → Option (List ℕ) → Option (List ℕ) → Type 0 → ℕ → Type 0

@@ -33,6 +33,6 @@ fn answer_over(alloc: Global, bytes: &[u8], list: &str) -> Result<(u8, Vec<u8>),
 {
     match analyse_uncounted(alloc, bytes, list) {
         Ok(analysis) => Ok((0, write_report(alloc, &analysis.report)?)),
-        Err(refusal) => Ok((1, refusal_line(alloc, refusal)?)),
+        Err(refusal) => Ok((1, refusal_line(alloc, bytes, refusal)?)),
     }
 }

@@ -39,6 +39,6 @@ fn certs_over(alloc: Global, bytes: &[u8], list: &str) -> Result<(u8, Vec<u8>), 
                 write_certs(alloc, &analysis.report, analysis.certs.as_slice())?,
             ))
         }
-        Err(refusal) => Ok((1, refusal_line(alloc, refusal)?)),
+        Err(refusal) => Ok((1, refusal_line(alloc, bytes, refusal)?)),
     }
 }

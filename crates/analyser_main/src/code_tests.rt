@@ -136,6 +136,13 @@ const BESIDE_SLOT_CODE: [u32; 8] = [
     0x008000EF, EBREAK, 0xFF010113, 0x00113423, 0x00012223, 0x00813083, 0x01010113, 0x00008067,
 ];
 
+// jal ra,8; ebreak; addi sp,sp,-16; sd ra,8(sp); sd s0,0(sp); addi s0,sp,16; jal ra,20; ld ra,-8(s0);
+// ld s0,-16(s0); addi sp,sp,16; ret; ret
+const FRAME_POINTER_CODE: [u32; 12] = [
+    0x008000EF, EBREAK, 0xFF010113, 0x00113423, 0x00813023, 0x01010413, 0x014000EF, 0xFF843083,
+    0xFF043403, 0x01010113, 0x00008067, 0x00008067,
+];
+
 const GIVEN_BACK: &str = "proc 0x10078\nsp never\nra never\nproc 0x10080\nsp granted\nra granted\n";
 
 const LOST: &str = "proc 0x10078\nsp never\nra never\nproc 0x10080\nsp granted\nra broken\n";
@@ -143,18 +150,26 @@ const LOST: &str = "proc 0x10078\nsp never\nra never\nproc 0x10080\nsp granted\n
 const SAVED: &str =
     "proc 0x10078\nsp never\nra never\ns0 never\nproc 0x1008c\nsp granted\nra granted\ns0 granted\nproc 0x100b4\nsp granted\nra granted\ns0 granted\n";
 
+const FRAME_POINTER: &str =
+    "proc 0x10078\nsp never\nra never\ns0 never\nproc 0x10080\nsp granted\nra granted\ns0 granted\nproc 0x100a4\nsp granted\nra granted\ns0 granted\n";
+
 const NEVER: &str = "proc 0x10078\nsp never\nproc 0x10080\nsp never\n";
 
 #[test]
 fn certificates_of_code_with_calls(rt: HostRuntime) -> Result<(), Fail> {
     let alloc = rt.alloc();
     // The list, the code, and what stands for its procedures.
-    let cases: [(&str, &[u32], &str); 6] = [
+    let cases: [(&str, &[u32], &str); 7] = [
         ("sp,ra,0x10080:-8", &RECURSION_CODE, GIVEN_BACK),
         ("sp,ra", &RECURSION_CODE, LOST),
         ("sp,ra,0x10080:-8", &INTO_SLOT_CODE, LOST),
         ("sp,ra,0x10080:-8", &BESIDE_SLOT_CODE, GIVEN_BACK),
         ("sp,ra,s0,a0,0x1008c:-8,0x1008c:-16", &FRAME_CODE, SAVED),
+        (
+            "sp,ra,s0,0x10080:-8,0x10080:-16",
+            &FRAME_POINTER_CODE,
+            FRAME_POINTER,
+        ),
         ("sp", &NO_RETURN_CODE, NEVER),
     ];
     for (list, code, procedures) in cases {
@@ -202,5 +217,28 @@ fn reports_of_code_with_calls(rt: HostRuntime) -> Result<(), Fail> {
         assert_eq!(rt; affine_main(alloc, &words, &mut files, &mut out), 0);
         assert_eq!(rt; out.written.as_slice(), report.as_bytes());
     }
+    Ok(())
+}
+
+// Branches that each go on at the next word and the one behind it, and two ends: a head for each point.
+fn branches(alloc: Global, count: usize) -> Result<Vec<u8>, AllocError> {
+    let mut words = Vec::new(alloc);
+    for _ in 0..count {
+        words.push(0x00050463)?;
+    }
+    words.extend_from_slice(&[EBREAK, EBREAK])?;
+    small_file(alloc, &words)
+}
+
+#[test]
+fn heads_at_the_limit(rt: HostRuntime) -> Result<(), Fail> {
+    let alloc = rt.alloc();
+    let few = branches(alloc, 4093)?;
+    let (status, _) = answer_to(alloc, "analyse f --track a0", few, 131_072)?;
+    assert_eq!(rt; status, 0);
+    let many = branches(alloc, 4094)?;
+    let (status, text) = answer_to(alloc, "analyse f --track a0", many, 4096)?;
+    assert_eq!(rt; status, 1);
+    assert_eq!(rt; text.as_slice(), b"refused TooManyHeads 4096\n".as_slice());
     Ok(())
 }

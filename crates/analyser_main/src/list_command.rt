@@ -33,7 +33,7 @@ fn listing_over(alloc: Global, bytes: &[u8]) -> Result<(u8, Vec<u8>), AllocError
 {
     match list_of(alloc, bytes) {
         Ok(text) => Ok((0, text)),
-        Err(refusal) => Ok((1, refusal_line(alloc, refusal)?)),
+        Err(refusal) => Ok((1, refusal_line(alloc, bytes, refusal)?)),
     }
 }
 

@@ -19,6 +19,8 @@ mod certs_text;
 #[cfg(test)]
 mod code_tests;
 mod commands;
+#[cfg(test)]
+mod compressed_tests;
 mod file_reply;
 mod list_command;
 mod names_text;

@@ -3,11 +3,11 @@
 ghost use Rattle.std.specs.Prelude.{◌≡◌, ◌++◌, All, IfOk, OnOk};
 ghost use Rattle.rv_decode.specs.Instructions.{IsWellFormed};
 ghost use Rattle.report_text.specs.Text.{opening_text};
-ghost use Rattle.analyser_main.specs.PointsList.{code_text, list_text};
+ghost use Rattle.analyser_main.specs.PointsList.{code_text, list_text, word_text};
 
+use flow_points::laws::instructions_are_in_range;
 use flow_points::{CodePoint, Points};
-use number_text::{push_hex, push_hex8};
-use rv_decode::laws::table_is_one_to_one;
+use number_text::{push_hex, push_hex4, push_hex8};
 use rv_text::write_instr;
 use std::alloc::{AllocError, Global};
 
@@ -50,11 +50,22 @@ fn push_code(alloc: Global, text: &mut Vec<u8>, code: &CodePoint) -> Result<(), 
 {
     push_hex(text, code.point.address)?;
     text.extend_from_slice(b" ")?;
-    push_hex8(text, code.word)?;
+    push_word(text, code.word, code.length)?;
     text.extend_from_slice(b" ")?;
     let instr = write_instr(alloc, &code.instr)?;
     text.extend_from_slice(instr.as_bytes())?;
     text.extend_from_slice(b"\n")
+}
+
+/// Appends the digits of an instruction word of this length: four for two bytes, else eight.
+pub(crate) fn push_word(text: &mut Vec<u8>, word: u32, length: u8) -> Result<(), AllocError>
+    ensures { OnOk result (text.new.items ≡ text.old.items ++ word_text word length) }
+{
+    if length == 2 {
+        push_hex4(text, word)
+    } else {
+        push_hex8(text, word)
+    }
 }
 
 // What the code of points keeps.
@@ -62,5 +73,5 @@ fn known_codes(points: &Points)
     ensures { All (λ code. IsWellFormed code.instr) points.now.points }
 {
     points.known();
-    table_is_one_to_one();
+    instructions_are_in_range();
 }

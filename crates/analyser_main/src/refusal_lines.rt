@@ -1,28 +1,30 @@
 //! The lines of refusals: of files, of their code, and of any analysis.
 
-ghost use Rattle.std.specs.Prelude.{◌≡◌, IfOk};
-ghost use Rattle.number_text.specs.Numerals.{dec, hex, hex8};
+ghost use Rattle.std.specs.Prelude.{◌≡◌, IfOk, codes};
+ghost use Rattle.number_text.specs.Numerals.{dec, hex};
 ghost use Rattle.rv_decode.specs.Registers.{name_of_register};
 ghost use Rattle.elf_image.specs.declared.refusal.ElfRefusal.TheVariants.{NoCode};
-ghost use Rattle.flow_points.specs.declared.refusal.FlowRefusal.TheVariants.{NoInstruction, MisalignedTarget};
+ghost use Rattle.flow_points.specs.declared.refusal.FlowRefusal.TheVariants.{NoInstruction};
 ghost use Rattle.analyser_main.specs.Lines.{at_offset, at_address, valued, elf_line, flow_line, refused, too_long_line, IsLineOf};
 
+use crate::points_list::push_word;
 use crate::track_lines::track_line;
 use analyser_core::Refusal;
-use elf_image::ElfRefusal;
+use elf_image::{ElfRefusal, fetch_length, unit_of};
 use flow_points::FlowRefusal;
-use number_text::{push_dec, push_hex, push_hex8};
+use number_text::{push_dec, push_hex};
 use rv_decode::register_name;
 use std::alloc::{AllocError, Global};
 
-/// The line of a refusal.
-pub fn refusal_line(alloc: Global, refusal: Refusal) -> Result<Vec<u8>, AllocError>
-    ensures { IfOk result (λ line. IsLineOf refusal line.items) }
+/// The line of what these bytes are refused for.
+pub fn refusal_line(alloc: Global, bytes: &[u8], refusal: Refusal) -> Result<Vec<u8>, AllocError>
+    ensures { IfOk result (λ line. IsLineOf bytes.now refusal line.items) }
 {
     match refusal {
         Refusal::Elf(refusal) => elf_line(alloc, refusal),
-        Refusal::Flow(refusal) => flow_line(alloc, refusal),
+        Refusal::Flow(refusal) => flow_line(alloc, unit_of(bytes), refusal),
         Refusal::Track(refusal) => track_line(alloc, refusal),
+        Refusal::Heads(limit) => value_line(alloc, b"TooManyHeads", u64::from(limit)),
         Refusal::Memory => Err(AllocError),
     }
 }
@@ -77,7 +79,6 @@ fn elf_line(alloc: Global, refusal: ElfRefusal) -> Result<Vec<u8>, AllocError>
             offset,
         ),
         ElfRefusal::Rve { offset } => plain_line(alloc, b"Rve", offset),
-        ElfRefusal::Compressed { offset } => plain_line(alloc, b"Compressed", offset),
         ElfRefusal::BadHeaderTable { offset } => plain_line(alloc, b"BadHeaderTable", offset),
         ElfRefusal::Dynamic { offset } => plain_line(alloc, b"Dynamic", offset),
         ElfRefusal::BadSegment { offset } => plain_line(alloc, b"BadSegment", offset),
@@ -121,13 +122,16 @@ fn no_code_line(alloc: Global, entry: u64, offset: u64) -> Result<Vec<u8>, Alloc
     plain_line(alloc, &text, offset)
 }
 
-fn flow_line(alloc: Global, refusal: FlowRefusal) -> Result<Vec<u8>, AllocError>
-    ensures { IfOk result (λ line. line.items ≡ flow_line refusal) }
+// The line of a refusal of code in a file of this unit.
+fn flow_line(alloc: Global, unit: u8, refusal: FlowRefusal) -> Result<Vec<u8>, AllocError>
+    ensures { IfOk result (λ line. line.items ≡ flow_line unit refusal) }
 {
     match refusal {
         FlowRefusal::TooManyPoints(limit) => value_line(alloc, b"TooManyPoints", u64::from(limit)),
         FlowRefusal::OutsideCode(address) => address_line(alloc, b"OutsideCode", address),
-        FlowRefusal::NoInstruction(address, word) => no_instruction_line(alloc, address, word),
+        FlowRefusal::NoInstruction(address, word) => {
+            no_instruction_line(alloc, unit, address, word)
+        }
         FlowRefusal::OddLink(address, register) => register_line(
             alloc, b"OddLink", register, address,
         ),
@@ -179,16 +183,21 @@ fn name_of(register: u8) -> &'static str
     }
 }
 
-fn no_instruction_line(alloc: Global, address: u64, word: u32) -> Result<Vec<u8>, AllocError>
-    ensures { IfOk result (λ line. line.items ≡ flow_line (NoInstruction address word)) }
+fn no_instruction_line(
+    alloc: Global,
+    unit: u8,
+    address: u64,
+    word: u32,
+) -> Result<Vec<u8>, AllocError>
+    ensures { IfOk result (λ line. line.items ≡ flow_line unit (NoInstruction address word)) }
 {
     let mut text = Vec::from_slice(alloc, b"NoInstruction ")?;
-    push_hex8(&mut text, word)?;
+    push_word(&mut text, word, fetch_length(unit, (word % 256) as u8))?;
     address_line(alloc, &text, address)
 }
 
 fn target_line(alloc: Global, address: u64, target: u64) -> Result<Vec<u8>, AllocError>
-    ensures { IfOk result (λ line. line.items ≡ flow_line (MisalignedTarget address target)) }
+    ensures { IfOk result (λ line. line.items ≡ at_address (valued (codes "MisalignedTarget") (hex target)) address) }
 {
     let mut text = Vec::from_slice(alloc, b"MisalignedTarget ")?;
     push_hex(&mut text, target)?;

@@ -227,7 +227,7 @@ const CALL_LIST: &str =
 fn flow_of_files(rt: HostRuntime) -> Result<(), Fail> {
     let alloc = rt.alloc();
     let many = vec![in alloc; 0x00050513; 4095]?;
-    let mut too_many = vec![in alloc; 0x00050513; 4096]?;
+    let mut too_many = vec![in alloc; 0x00050513; 16384]?;
     too_many.push(EBREAK)?;
     let cases: [(&[u32], u8, &str); 7] = [
         (&CALL, 0, CALL_LIST),
@@ -251,7 +251,7 @@ fn flow_of_files(rt: HostRuntime) -> Result<(), Fail> {
             1,
             "refused IntoPair at 0x10080\n",
         ),
-        (&too_many, 1, "refused TooManyPoints 4096\n"),
+        (&too_many, 1, "refused TooManyPoints 16384\n"),
         (&many, 1, "refused OutsideCode at 0x14074\n"),
     ];
     for (code, status, text) in cases {

@@ -1,8 +1,12 @@
 //! The top call.
 
-ghost use Rattle.std.specs.Prelude.{◌≡◌, ◌≢◌, ◌<◌, IfOk, IfErr};
+ghost use Rattle.std.specs.Prelude.{◌≡◌, ◌≢◌, ◌<◌, ℕ, List, IfOk, IfErr};
 ghost use Rattle.std.specs.Process.{exit_status};
 ghost use Rattle.outside.specs.Counts.{HasRisen};
+ghost use Rattle.report_text.specs.declared.reports.Report.{Report};
+ghost use Rattle.analyser_core.specs.MachineRuns.{TellsOfRuns};
+ghost use Rattle.analyser_core.specs.Reports.{IsReportOver};
+ghost use Rattle.analyser_core.specs.declared.cert_line.CertLine.{CertLine};
 ghost use Rattle.analyser_main.specs.Orders.{Usage, texts_of, order_of};
 ghost use Rattle.analyser_main.specs.Answers.{call, IsUsage, IsCarriedOut, Ends, Says, no_memory_text};
 ghost use Rattle.analyser_main.specs.Replies.{SaysReply};
@@ -12,6 +16,7 @@ use crate::cert_command::reply_to_cert;
 use crate::commands::read_order;
 use crate::list_command::reply_to_list;
 use crate::{Order, Reply};
+use analyser_core::reports_tell_of_runs;
 use outside::{Files, Sink, write_all};
 use std::alloc::Global;
 use std::io;
@@ -36,7 +41,11 @@ pub fn affine_main<F: Files, K: Sink>(
         (call F.contents F.faults K.written K.faults files.old files.new out.old out.new) result }
     // Where the sink's count rose, the answer says so.
     ensures counted { K.faults out.old < K.faults out.new → result ≡ 4 }
+    // What a report says of each run of the machine that keeps the discipline.
+    ensures runs { (bytes list : List ℕ) (report : Report) (certs : List CertLine)
+        → IsReportOver bytes list report certs → TellsOfRuns bytes list report certs }
 {
+    reports_tell_of_runs();
     match read_order(words) {
         Order::Usage => say(out, 2, USAGE),
         Order::Analyse { file, list } => say_reply(out, reply_to_analyse(alloc, files, file, list)),

@@ -1,11 +1,12 @@
 -- What each image keeps, and numbers in memory by their bytes. Crates above may cite these.
-use Rattle.std.proofs.Common.{◌≡◌, ℕ, ◌+◌, ◌<◌, ◌≤◌, ◌%◌, Bool, true, false, List, Option, None, Some, option_map, is_some, length, get_or, All, AllPairs, Contains, IfSome, IsSome, find, refl, arith, subst, sym, ap}
+use Rattle.std.proofs.Common.{◌≡◌, ℕ, ◌+◌, ◌<◌, ◌≤◌, ◌%◌, Bool, true, false, List, None, Some, option_map, length, get_or, All, AllPairs, Contains, IfSome, IsSome, find, refl, arith, subst, sym, ap}
 use Rattle.std.proofs.lemmas.List.Elements.{All-contains, Contains-get_or}
 use Rattle.elf_image.specs.Segments.{IsLoadable, holds, holds_code, shares_address, byte_in, word_in, segment_with, code_segment}
-use Rattle.elf_image.specs.Images.{loaded_byte, code_word, IsWordAt}
+use Rattle.elf_image.specs.Images.{loaded_byte, loaded, code_at, code_word, IsWordAt}
+use Rattle.elf_image.specs.Ranges.{executable_ranges}
 use Rattle.elf_image.specs.declared.segment.Segment.{Segment}
 use Rattle.elf_image.specs.declared.image.Image.{Image}
-use Rattle.elf_image.proofs.Accepted.{segments_few, segments_loadable, segments_share_none, entry_accepted}
+use Rattle.elf_image.proofs.Accepted.{segments_few, segments_loadable, segments_share_none, entry_accepted, fetched_at_multiple}
 use Rattle.elf_image.proofs.Apart.{one_holder}
 use Rattle.elf_image.proofs.Found.{found_has, found_passes}
 use Rattle.elf_image.proofs.Held.{code_held, code_ends, both_hold}
@@ -19,11 +20,16 @@ loadable image =
     let P : List Segment → Type 0 = λ ss. All (IsLoadable (length image.file)) ss in
     subst P (sym image.keeps) (segments_loadable image.file image.accepted)
 
+pub loadable_list : (image : Image) (file : List ℕ) (segments : List Segment) → file ≡ image.file → segments ≡ image.segments → All (IsLoadable (length file)) segments
+loadable_list image file segments is are =
+    let P : List Segment → Type 0 = λ ss. All (IsLoadable (length image.file)) ss in
+    let Q : List ℕ → Type 0 = λ bytes. All (IsLoadable (length bytes)) segments in
+    subst Q (sym is) (subst P (sym are) (loadable image))
+
 -- any segment that is found
 pub found_loadable : (image : Image) (segments : List Segment) (p : Segment → Bool) (s : Segment) → segments ≡ image.segments → Some s ≡ find p segments → IsLoadable (length image.file) s
 found_loadable image segments p s same found =
-    let P : List Segment → Type 0 = λ ss. All (IsLoadable (length image.file)) ss in
-    found_has (IsLoadable (length image.file)) p segments s (subst P (sym same) (loadable image)) (sym found)
+    found_has (IsLoadable (length image.file)) p segments s (loadable_list image image.file segments refl same) (sym found)
 
 share_none : (image : Image) → AllPairs (λ s t. shares_address s t ≡ false) image.segments
 share_none image =
@@ -74,14 +80,10 @@ words image a =
           }
     ] refl
 
-pub entry_is_multiple : (image : Image) → image.entry % 4 ≡ 0
-entry_is_multiple image = rw image.enters (entry_accepted image.file image.accepted).0
+-- something is fetched at the entry, which is a multiple of the unit
+pub entry_has_code : (image : Image) → IsSome (code_at image image.entry)
+entry_has_code image = rw (image.has_unit, image.enters, image.keeps) (entry_accepted image.file image.accepted)
 
-is_some-option_map : {X Y : Type 0} (f : X → Y) (o : Option X) → is_some (option_map f o) ≡ is_some o
-is_some-option_map f None = refl
-is_some-option_map f (Some x) = refl
-
-pub entry_has_code : (image : Image) → IsSome (code_word image image.entry)
-entry_has_code image =
-    let found = (entry_accepted image.file image.accepted).1 in
-    rw (is_some-option_map, image.enters, image.keeps) found
+pub entry_is_multiple : (image : Image) → image.entry % image.unit ≡ 0
+entry_is_multiple image =
+    fetched_at_multiple image.unit (executable_ranges image.segments) (loaded image) image.entry (entry_has_code image)

@@ -8,16 +8,18 @@
 --   fetch unit code memory a
 --                           the word and the length at a, where a is a multiple of the unit and as many
 --                           bytes as the length lie in one executable range
---   loaded image a          the byte loaded at a, and 0 where no segment has a
---   code_at image a         what is fetched at a from the image alone
+--   loaded_in file segments a
+--                           the byte at a of the segments of a file, and 0 where none has a
+--   fetched_in unit file segments a
+--                           what is fetched at a from these segments
 use Rattle.std.specs.Prelude.{ℕ, zero, suc, ◌+◌, ◌*◌, ◌%◌, ◌^◌, ◌==◌, not, ◌&&◌, List, Option, None, Some, if◌then◌else◌}
 use Rattle.std.specs.Option.{unwrap_or}
 use Rattle.std.specs.List.{list_any}
-use Rattle.elf_image.specs.Images.{loaded_byte}
 use Rattle.elf_image.specs.Ranges.{is_in, executable_ranges}
+use Rattle.elf_image.specs.Segments.{byte_of}
 use Rattle.elf_image.specs.declared.range.Range.{Range}
+use Rattle.elf_image.specs.declared.segment.Segment.{Segment}
 use Rattle.elf_image.specs.declared.fetched.Fetched.{Fetched}
-use Rattle.elf_image.specs.declared.image.Image.{Image}
 
 abbrev pub fetch_length : ℕ → ℕ → ℕ
 fetch_length unit low = if unit == 2 && not (low % 4 == 3) then 2 else 4
@@ -37,8 +39,8 @@ fetch unit code memory a =
       length = length;
     }) else None
 
-abbrev pub loaded : Image → ℕ → ℕ
-loaded image a = unwrap_or (loaded_byte image a) 0
+abbrev pub loaded_in : List ℕ → List Segment → ℕ → ℕ
+loaded_in file segments a = unwrap_or (byte_of file segments a) 0
 
-abbrev pub code_at : Image → ℕ → Option Fetched
-code_at image a = fetch image.unit (executable_ranges image.segments) (loaded image) a
+abbrev pub fetched_in : ℕ → List ℕ → List Segment → ℕ → Option Fetched
+fetched_in unit file segments a = fetch unit (executable_ranges segments) (loaded_in file segments) a

@@ -2,16 +2,26 @@
 --
 --   loaded_byte image a   the byte at the address a: that of the file in the stored part of a segment,
 --                         0 in the rest of a segment, none elsewhere
+--   loaded image a        the byte loaded at a, and 0 where no segment has a
+--   code_at image a       the word and the length that are fetched at a
 --   code_word image a     the little-endian word of the loaded bytes at a to a + 3, where these lie in
 --                         one executable segment
 --   IsWordAt image a w    the bytes loaded at a to a + 3, which end below 2^64, are those of the word w
 use Rattle.std.specs.Prelude.{◌≡◌, ℕ, ◌+◌, ◌^◌, ◌≤◌, [], ◌∷◌, Option, Some, option_map}
 use Rattle.std.specs.Int.{from_le_bytes, w32}
-use Rattle.elf_image.specs.Segments.{byte_in, word_in, segment_with, code_segment}
+use Rattle.elf_image.specs.Segments.{byte_of, word_in, code_segment}
+use Rattle.elf_image.specs.Fetches.{loaded_in, fetched_in}
+use Rattle.elf_image.specs.declared.fetched.Fetched.{Fetched}
 use Rattle.elf_image.specs.declared.image.Image.{Image}
 
 abbrev pub loaded_byte : Image → ℕ → Option ℕ
-loaded_byte image a = option_map (λ s. byte_in image.file s a) (segment_with image.segments a)
+loaded_byte image a = byte_of image.file image.segments a
+
+abbrev pub loaded : Image → ℕ → ℕ
+loaded image a = loaded_in image.file image.segments a
+
+abbrev pub code_at : Image → ℕ → Option Fetched
+code_at image a = fetched_in image.unit image.file image.segments a
 
 abbrev pub code_word : Image → ℕ → Option ℕ
 code_word image a = option_map (λ s. word_in image.file s a) (code_segment image.segments a)

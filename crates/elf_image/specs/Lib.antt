@@ -2,6 +2,6 @@ pub mod Fields
 pub mod Headers
 pub mod Segments
 pub mod Refusals
-pub mod Images
 pub mod Ranges
 pub mod Fetches
+pub mod Images

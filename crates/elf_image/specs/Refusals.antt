@@ -10,20 +10,21 @@
 --   header_refusal size headers   the refusal for a header alone, in a file of this size
 --   shares_earlier headers h      h shares an address with one of the headers that stands earlier
 --   kept_refusal headers          the refusal for the kept headers together
---   entry_refusal segments entry  the refusal for the entry
+--   entry_refusal bytes segments  the refusal for the entry, where nothing is fetched from the segments
 --   refusals_of bytes             all of these, in order
 --   refusal_of bytes              the refusal of bytes: the first of them, if there is one
 --   IsVerdict result refusal      a check's result: an error exactly where there is this refusal
-use Rattle.std.specs.Prelude.{◌≡◌, Result, MatchResult, ℕ, ◌+◌, ◌*◌, ◌%◌, nat_lt, ◌==◌, Bool, not, ◌&&◌, ◌||◌, List, [], ◌∷◌, Option, None, Some, is_none, option_map, length, find, slice_get, slice_index, if◌then◌else◌}
+use Rattle.std.specs.Prelude.{◌≡◌, Result, MatchResult, ℕ, ◌+◌, ◌*◌, nat_lt, ◌==◌, Bool, not, ◌&&◌, List, [], ◌∷◌, Option, None, Some, is_none, option_map, length, find, slice_get, slice_index, if◌then◌else◌}
 use Rattle.std.specs.List.{starts_with, list_any}
 use Rattle.std.specs.Prelude.{nat_eq}
-use Rattle.elf_image.specs.Fields.{e_type, e_machine, e_entry, e_phoff, e_flags, e_phentsize, e_phnum, has_bit}
+use Rattle.elf_image.specs.Fields.{e_type, e_machine, e_entry, e_phoff, e_flags, e_phentsize, e_phnum, has_bit, unit_of}
 use Rattle.elf_image.specs.Headers.{headers_of, is_dynamic, is_bad}
-use Rattle.elf_image.specs.Segments.{shares_address, segment_of, kept_headers, segments_of, code_segment}
+use Rattle.elf_image.specs.Segments.{shares_address, segment_of, kept_headers, segments_of}
+use Rattle.elf_image.specs.Fetches.{fetched_in}
 use Rattle.elf_image.specs.declared.program_header.ProgramHeader.{ProgramHeader}
 use Rattle.elf_image.specs.declared.segment.Segment.{Segment}
 use Rattle.elf_image.specs.declared.refusal.ElfRefusal.{ElfRefusal}
-use Rattle.elf_image.specs.declared.refusal.ElfRefusal.TheVariants.{Short, NotElf, NotClass64, NotLittle, NotExec, NotRiscv, Rve, Compressed, BadHeaderTable, Dynamic, BadSegment, TooManySegments, Overlap, NoCode}
+use Rattle.elf_image.specs.declared.refusal.ElfRefusal.TheVariants.{Short, NotElf, NotClass64, NotLittle, NotExec, NotRiscv, Rve, BadHeaderTable, Dynamic, BadSegment, TooManySegments, Overlap, NoCode}
 
 abbrev pub when : Bool → ElfRefusal → Option ElfRefusal
 when condition refusal = if condition then Some refusal else None
@@ -52,7 +53,6 @@ machine_refusal bytes = first_of (
     when (not (e_type bytes == 2)) (NotExec (e_type bytes) 16)
     ∷ when (not (e_machine bytes == 243)) (NotRiscv (e_machine bytes) 18)
     ∷ when (has_bit 0x8 (e_flags bytes)) (Rve 48)
-    ∷ when (has_bit 0x1 (e_flags bytes)) (Compressed 48)
     ∷ [])
 
 unfoldable pub table_refusal : List ℕ → Option ElfRefusal
@@ -77,9 +77,9 @@ kept_refusal kept = first_of (
     ∷ at_header (λ offset. Overlap offset) (find (shares_earlier kept) kept)
     ∷ [])
 
-unfoldable pub entry_refusal : List Segment → ℕ → Option ElfRefusal
-entry_refusal segments entry =
-    when (not (entry % 4 == 0) || is_none (code_segment segments entry)) (NoCode entry 24)
+unfoldable pub entry_refusal : List ℕ → List Segment → Option ElfRefusal
+entry_refusal bytes segments =
+    when (is_none (fetched_in (unit_of bytes) bytes segments (e_entry bytes))) (NoCode (e_entry bytes) 24)
 
 abbrev pub refusals_of : List ℕ → List (Option ElfRefusal)
 refusals_of bytes =
@@ -88,7 +88,7 @@ refusals_of bytes =
     ∷ table_refusal bytes
     ∷ header_refusal (length bytes) (headers_of bytes)
     ∷ kept_refusal (kept_headers bytes)
-    ∷ entry_refusal (segments_of bytes) (e_entry bytes)
+    ∷ entry_refusal bytes (segments_of bytes)
     ∷ []
 
 unfoldable pub refusal_of : List ℕ → Option ElfRefusal

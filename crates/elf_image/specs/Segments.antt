@@ -9,11 +9,12 @@
 --   IsLoadable size s       the stored bytes lie in a file of this size, they are no more than the segment's,
 --                           and its addresses, of which there is one at least, end below 2^64
 --   segment_with segments a the first segment that holds the address a, where there is one
+--   byte_of file segments a the byte at a of the segments of a file, none where none holds it
 --   code_segment segments a the segment that holds code at a, where there is one
 --   segment_of h            the segment of a kept header. Bit 0x1 of p_flags is PF_X, executable
 --   kept_headers bytes      the kept headers of a file, in order
 --   segments_of bytes       their segments
-use Rattle.std.specs.Prelude.{ℕ, ◌+◌, ◌-◌, ◌^◌, ◌<◌, ◌≤◌, nat_lt, nat_le, Bool, ◌&&◌, ◌||◌, List, [], ◌∷◌, Option, find, filter, map, slice_index, if◌then◌else◌}
+use Rattle.std.specs.Prelude.{ℕ, ◌+◌, ◌-◌, ◌^◌, ◌<◌, ◌≤◌, nat_lt, nat_le, Bool, ◌&&◌, ◌||◌, List, [], ◌∷◌, Option, option_map, find, filter, map, slice_index, if◌then◌else◌}
 use Rattle.std.specs.Int.{from_le_bytes, w32}
 use Rattle.elf_image.specs.Fields.{has_bit}
 use Rattle.elf_image.specs.Headers.{headers_of, is_kept}
@@ -45,6 +46,9 @@ pub record IsLoadable (size : ℕ) (s : Segment) : Type 0 where
 
 abbrev pub segment_with : List Segment → ℕ → Option Segment
 segment_with segments a = find (λ s. holds s a) segments
+
+abbrev pub byte_of : List ℕ → List Segment → ℕ → Option ℕ
+byte_of file segments a = option_map (λ s. byte_in file s a) (segment_with segments a)
 
 abbrev pub code_segment : List Segment → ℕ → Option Segment
 code_segment segments a = find (λ s. holds_code s a) segments

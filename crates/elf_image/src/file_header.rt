@@ -1,6 +1,6 @@
 //! The file header, the first 64 bytes: System V ABI, "ELF Header".
 
-ghost use Rattle.std.specs.Prelude.{◌≡◌, ◌≤◌, ◌+◌, ◌*◌, length, OnOk};
+ghost use Rattle.std.specs.Prelude.{◌≡◌, ◌≤◌, ◌+◌, ◌*◌, length, slice_index, OnOk};
 ghost use Rattle.elf_image.specs.Fields.{e_type, e_machine, e_entry, e_phoff, e_flags, e_phentsize, e_phnum, unit_of};
 ghost use Rattle.elf_image.specs.Refusals.{IsVerdict, identity_refusal, machine_refusal, table_refusal};
 
@@ -24,7 +24,7 @@ const EM_RISCV: u16 = 243;
 const EF_RISCV_RVE: u32 = 0x8;
 
 /// Of the RISC-V ELF psABI, "File Header": compressed instructions.
-const EF_RISCV_RVC: u32 = 0x1;
+const EF_RISCV_RVC: u8 = 0x1;
 
 /// Refuses bytes that don't begin as a little-endian ELF-64 file.
 #[tactic(auto, unfolding(crate::specs::Refusals::identity_refusal))]
@@ -74,12 +74,8 @@ pub fn check_machine(bytes: &[u8]) -> Result<(), ElfRefusal>
             offset: 18,
         });
     }
-    let e_flags = e_flags(bytes);
-    if e_flags & EF_RISCV_RVE != 0 {
+    if e_flags(bytes) & EF_RISCV_RVE != 0 {
         return Err(ElfRefusal::Rve { offset: 48 });
-    }
-    if e_flags & EF_RISCV_RVC != 0 {
-        return Err(ElfRefusal::Compressed { offset: 48 });
     }
     Ok(())
 }
@@ -133,16 +129,24 @@ pub fn e_phoff(bytes: &[u8]) -> u64
     xword_at(bytes, 32)
 }
 
-/// What addresses of instructions are multiples of.
-pub fn unit(bytes: &[u8]) -> u8
-    requires { 64 ≤ length bytes.now }
+/// What addresses of instructions are multiples of in a file with these bytes, by the flag for compressed
+/// instructions.
+#[tactic(auto, using(crate::proofs::Units::unit_by_first))]
+pub fn unit_of(bytes: &[u8]) -> u8
     ensures { result ≡ unit_of bytes.now }
 {
-    if e_flags(bytes) & EF_RISCV_RVC != 0 {
+    if flags_low(bytes) & EF_RISCV_RVC != 0 {
         2
     } else {
         4
     }
+}
+
+// The first byte of the flags, which has the lowest bits.
+fn flags_low(bytes: &[u8]) -> u8
+    ensures { result ≡ slice_index bytes.now 48 }
+{
+    bytes.get(48).copied().unwrap_or(0)
 }
 
 /// The flags of the machine.

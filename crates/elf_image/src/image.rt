@@ -5,9 +5,10 @@ ghost use Rattle.elf_image.specs.Fields.{e_entry, unit_of};
 ghost use Rattle.elf_image.specs.Segments.{segments_of};
 ghost use Rattle.elf_image.specs.Refusals.{refusal_of};
 
-use crate::fetched::{Fetched, fetch_length};
+use crate::fetched::Fetched;
 use crate::fields::each_is_byte;
-use crate::segment::{Segment, code_segment, segment_with};
+use crate::loaded::{byte_of, fetched_in};
+use crate::segment::{Segment, code_segment};
 use crate::symbol::Symbol;
 use sqlite_items::Items;
 
@@ -30,10 +31,7 @@ pub struct Image {
 impl Image {
     ghost use Rattle.std.specs.Prelude.{◌≡◌, ◌⊎◌, ℕ, ◌%◌, ◌<◌, ◌≤◌, false, true, Some, length, All, AllPairs, Contains, IsSome, IfSome};
     ghost use Rattle.elf_image.specs.Segments.{IsLoadable, holds, segment_with};
-    ghost use Rattle.elf_image.specs.Images.{loaded_byte, code_word, IsWordAt};
-    ghost use Rattle.elf_image.specs.Ranges.{is_in, executable_ranges};
-    ghost use Rattle.elf_image.specs.Fetches.{read, loaded, code_at};
-    ghost use Rattle.std.specs.List.{list_any};
+    ghost use Rattle.elf_image.specs.Images.{loaded_byte, code_at, code_word, IsWordAt};
     ghost use Rattle.elf_image.specs.declared.segment.Segment.{Segment};
 
     /// What each image keeps, for callers that need it.
@@ -47,8 +45,8 @@ impl Image {
             Contains self.now.segments s → holds s a ≡ true → segment_with self.now.segments a ≡ Some s }
         ensures units { (self.now.unit ≡ 2) ⊎ (self.now.unit ≡ 4) }
         ensures words { (a : ℕ) → IfSome (code_word self.now a) (IsWordAt self.now a) }
-        ensures entry_multiple { self.now.entry % 4 ≡ 0 }
-        ensures entry_code { IsSome (code_word self.now self.now.entry) }
+        ensures entry_multiple { self.now.entry % self.now.unit ≡ 0 }
+        ensures entry_code { IsSome (code_at self.now self.now.entry) }
     {
         each_is_byte(self.file.as_slice());
     }
@@ -57,8 +55,7 @@ impl Image {
     pub fn byte_at(&self, address: u64) -> Option<u8>
         ensures { result ≡ loaded_byte self.now address }
     {
-        let segment = segment_with(self.segments.as_slice(), address)?;
-        Some(segment.byte_at(self.file.as_slice(), address))
+        byte_of(self.file.as_slice(), self.segments.as_slice(), address)
     }
 
     /// The little-endian word of the four bytes from an address on, where they lie in one executable
@@ -72,55 +69,10 @@ impl Image {
 
     /// The instruction word at an address and its length, where the address is a multiple of the unit and
     /// the word's bytes lie in one executable segment.
-    #[tactic(auto, unfolding(crate::specs::Fetches::fetch))]
     pub fn code_at(&self, address: u64) -> Option<Fetched>
         ensures { result ≡ code_at self.now address }
     {
-        let length = fetch_length(self.unit, self.loaded(address));
-        if address % u64::from(self.unit) != 0 || !self.is_code(address, length) {
-            return None;
-        }
-        let word = if length == 2 {
-            u32::from(self.half_at(address))
-        } else {
-            self.word_at(address)
-        };
-        Some(Fetched { word, length })
-    }
-
-    // The bytes from the address on lie in one executable segment.
-    fn is_code(&self, address: u64, length: u8) -> bool
-        ensures { result ≡ list_any (is_in address length) (executable_ranges self.now.segments) }
-    {
-        self.segments
-            .as_slice()
-            .iter()
-            .filter(|s| s.executable)
-            .map(|s| s.range())
-            .any(|r| r.has(address, u64::from(length)))
-    }
-
-    // The byte that is loaded at an address, or 0.
-    fn loaded(&self, address: u64) -> u8
-        ensures { result ≡ loaded self.now address }
-    {
-        self.byte_at(address).unwrap_or(0)
-    }
-
-    fn half_at(&self, address: u64) -> u16
-        ensures { result ≡ read 2 (loaded self.now) address }
-    {
-        u16::from_le_bytes([self.loaded(address), self.loaded(address.wrapping_add(1))])
-    }
-
-    fn word_at(&self, address: u64) -> u32
-        ensures { result ≡ read 4 (loaded self.now) address }
-    {
-        u32::from_le_bytes([
-            self.loaded(address),
-            self.loaded(address.wrapping_add(1)),
-            self.loaded(address.wrapping_add(2)),
-            self.loaded(address.wrapping_add(3)),
-        ])
+        let (file, segments) = (self.file.as_slice(), self.segments.as_slice());
+        fetched_in(file, segments, self.unit, address)
     }
 }

@@ -1,14 +1,16 @@
 //! The kept headers and their segments, and what is asked of them together.
 
-ghost use Rattle.std.specs.Prelude.{◌≡◌, filter, find, map, IfOk};
+ghost use Rattle.std.specs.Prelude.{◌≡◌, ◌≤◌, filter, find, length, map, All, IfOk};
 ghost use Rattle.std.specs.Option.{option_copied};
 ghost use Rattle.elf_image.specs.Headers.{is_kept};
-ghost use Rattle.elf_image.specs.Segments.{segment_of};
+ghost use Rattle.elf_image.specs.Segments.{IsLoadable, segment_of};
 ghost use Rattle.elf_image.specs.Refusals.{IsVerdict, kept_refusal, entry_refusal, shares_earlier};
 
+use crate::file_header::{e_entry, unit_of};
+use crate::loaded::fetched_in;
 use crate::program_header::ProgramHeader;
 use crate::refusal::ElfRefusal;
-use crate::segment::{Segment, code_segment};
+use crate::segment::Segment;
 use std::alloc::{AllocError, Global};
 
 /// At most so many segments are kept.
@@ -69,14 +71,16 @@ pub fn segments(alloc: Global, kept: &[ProgramHeader]) -> Result<Vec<Segment>, A
     kept.iter().map(|h| h.segment()).collect(alloc)
 }
 
-/// Refuses an entry that isn't the address of a code word.
+/// Refuses an entry where nothing is fetched.
 #[tactic(auto, unfolding(crate::specs::Refusals::entry_refusal))]
-pub fn check_entry(segments: &[Segment], entry: u64) -> Result<(), ElfRefusal>
-    ensures { IsVerdict result (entry_refusal segments.now entry) }
+pub fn check_entry(bytes: &[u8], segments: &[Segment]) -> Result<(), ElfRefusal>
+    requires header { 64 ≤ length bytes.now }
+    requires loadable { All (IsLoadable (length bytes.now)) segments.now }
+    ensures { IsVerdict result (entry_refusal bytes.now segments.now) }
 {
-    if entry % 4 == 0 && code_segment(segments, entry).is_some() {
-        Ok(())
-    } else {
-        Err(ElfRefusal::NoCode { entry, offset: 24 })
+    let entry = e_entry(bytes);
+    match fetched_in(bytes, segments, unit_of(bytes), entry) {
+        Some(_) => Ok(()),
+        None => Err(ElfRefusal::NoCode { entry, offset: 24 }),
     }
 }

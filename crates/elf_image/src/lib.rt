@@ -1,14 +1,14 @@
 //! The image of an ELF file: a static little-endian RV64 executable, read from its bytes.
 //!
 //! [`read_image`] says of any bytes the first condition that refuses them, or gives their image: the
-//! entry, the kept segments and the bytes. Every condition is one on the whole list of bytes, so no
-//! header, whatever it says, leads outside them. An image answers which byte is loaded at an address,
-//! which code word, and what instruction word is fetched there, by the file's unit. What the words mean is
-//! left to others.
+//! entry, the unit, the kept segments and the bytes. Every condition is one on the whole list of bytes, so
+//! no header, whatever it says, leads outside them. An image answers which byte is loaded at an address,
+//! which word of four bytes code has there, and what instruction word of which length is fetched there, by
+//! the file's unit. What the words mean is left to others.
 //!
 //! ```text
 //! let image = read_image(alloc, &bytes)?;
-//! let first = image.code_word_at(image.entry);
+//! let first = image.code_at(image.entry);
 //! ```
 #![tactic(auto)]
 
@@ -18,6 +18,7 @@ mod file_header;
 mod header_table;
 mod image;
 mod kept;
+mod loaded;
 mod program_header;
 mod range;
 mod read;
@@ -28,6 +29,7 @@ mod symbol;
 mod tests;
 
 pub use fetched::{Fetched, fetch_length};
+pub use file_header::unit_of;
 pub use image::Image;
 pub use range::Range;
 pub use read::read_image;

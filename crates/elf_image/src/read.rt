@@ -5,7 +5,7 @@ ghost use Rattle.elf_image.specs.Fields.{e_entry, unit_of};
 ghost use Rattle.elf_image.specs.Segments.{segments_of};
 ghost use Rattle.elf_image.specs.Refusals.{refusal_of};
 
-use crate::file_header::{check_identity, check_machine, check_table, e_entry, unit};
+use crate::file_header::{check_identity, check_machine, check_table, e_entry, unit_of};
 use crate::header_table::{check_headers, program_headers};
 use crate::image::Image;
 use crate::kept::{check_entry, check_kept, kept_headers, segments};
@@ -29,7 +29,7 @@ pub fn read_image(alloc: Global, bytes: &[u8]) -> Result<Image, ElfRefusal>
     let file = Items::from_slice(alloc, bytes).map_err(|_| ElfRefusal::Memory)?;
     Ok(Image {
         entry: e_entry(bytes),
-        unit: unit(bytes),
+        unit: unit_of(bytes),
         file,
         segments: Items::from_vec(segments),
         symbols: Items::new(alloc),
@@ -52,6 +52,6 @@ fn accepted_segments(alloc: Global, bytes: &[u8]) -> Result<Vec<Segment>, ElfRef
     let kept = kept_headers(alloc, &headers).map_err(|_| ElfRefusal::Memory)?;
     check_kept(&kept)?;
     let segments = segments(alloc, &kept).map_err(|_| ElfRefusal::Memory)?;
-    check_entry(&segments, e_entry(bytes))?;
+    check_entry(bytes, &segments)?;
     Ok(segments)
 }

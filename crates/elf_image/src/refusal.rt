@@ -27,9 +27,6 @@ pub enum ElfRefusal {
     /// The flags say RVE, the base with 16 registers.
     #[error("Rve at offset {offset}")]
     Rve { offset: u64 },
-    /// The flags say that there may be compressed instructions.
-    #[error("Compressed at offset {offset}")]
-    Compressed { offset: u64 },
     /// The size of a program header isn't 56, or the table of them doesn't lie in the file.
     #[error("BadHeaderTable at offset {offset}")]
     BadHeaderTable { offset: u64 },
@@ -46,7 +43,8 @@ pub enum ElfRefusal {
     /// A segment shares an address with an earlier one.
     #[error("Overlap at offset {offset}")]
     Overlap { offset: u64 },
-    /// The entry isn't a multiple of 4, or its four bytes don't lie in one executable segment.
+    /// Nothing is fetched at the entry: it isn't a multiple of the unit, or the bytes of its instruction don't
+    /// lie in one executable segment.
     #[error("NoCode {entry:#x} at offset {offset}")]
     NoCode { entry: u64, offset: u64 },
     /// Out of memory.

@@ -67,7 +67,7 @@ fn the_first_condition_that_holds_is_answered(rt: HostRuntime) -> Result<(), Fai
         entry: 0x10078,
         offset: 24,
     };
-    let changes: [(usize, &[u8], ElfRefusal); 19] = [
+    let changes: [(usize, &[u8], ElfRefusal); 18] = [
         (3, b"f", ElfRefusal::NotElf { offset: 0 }),
         (4, &[1], ElfRefusal::NotClass64 { byte: 1, offset: 4 }),
         (5, &[2], ElfRefusal::NotLittle { byte: 2, offset: 5 }),
@@ -97,7 +97,6 @@ fn the_first_condition_that_holds_is_answered(rt: HostRuntime) -> Result<(), Fai
         ),
         (32, &ALL_ONES, ElfRefusal::BadHeaderTable { offset: 32 }),
         (48, &[9], ElfRefusal::Rve { offset: 48 }),
-        (48, &[1], ElfRefusal::Compressed { offset: 48 }),
         (54, &[55], ElfRefusal::BadHeaderTable { offset: 54 }),
         (56, &[0xff, 0xff], ElfRefusal::BadHeaderTable { offset: 32 }),
         (56, &[0], no_code),
@@ -184,7 +183,45 @@ fn bytes_are_loaded_and_the_rest_is_zero(rt: HostRuntime) -> Result<(), Fail> {
     assert_eq!(rt; image.code_at(0x1007a), None);
     assert_eq!(rt; image.code_at(0x10088), None);
     assert_eq!(rt; image.unit, 4);
+    Ok(())
+}
+
+#[test]
+fn code_may_be_compressed(rt: HostRuntime) -> Result<(), Fail> {
+    let alloc = rt.alloc();
     assert_eq!(rt; fetch_length(2, 0x15), 2);
     assert_eq!(rt; fetch_length(2, 0x13), 4);
+    let image = read_image(alloc, &changed(48, &[1]))?;
+    assert_eq!(rt; image.unit, 2);
+    let fetches = [
+        (0x10078, Some((0x0050_0513, 4))),
+        (0x10079, None),
+        (0x1007a, Some((0x0050, 2))),
+        (0x1007c, Some((0x0010_0073, 4))),
+        (0x1007e, Some((0x0010, 2))),
+        (0x10080, None),
+    ];
+    for (address, fetch) in fetches {
+        let fetched = fetch.map(|(word, length)| Fetched { word, length });
+        assert_eq!(rt; image.code_at(address), fetched);
+    }
+    Ok(())
+}
+
+#[test]
+fn an_entry_needs_a_fetch(rt: HostRuntime) -> Result<(), Fail> {
+    let alloc = rt.alloc();
+    // The two last bytes of a file with compressed code, and one before.
+    for (entry, flags, accepted) in [
+        (0x7e, 1, true),
+        (0x7a, 1, true),
+        (0x79, 1, false),
+        (0x7e, 0, false),
+        (0x7c, 0, true),
+    ] {
+        let mut bytes = changed(24, &[entry]);
+        bytes[48] = flags;
+        assert_eq!(rt; read_image(alloc, &bytes).is_ok(), accepted);
+    }
     Ok(())
 }

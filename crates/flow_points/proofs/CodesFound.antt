@@ -1,11 +1,12 @@
 -- The code of the entries of a search.
-use Rattle.std.proofs.Common.{◌≡◌, ℕ, ◌+◌, List, [], ◌∷◌, ◌++◌, take, append-nil, slice_get, Option, Some, Result, Ok, Err, All, refl, sym, ap, subst, ◌∙◌}
+use Rattle.std.proofs.Common.{◌≡◌, ℕ, ◌+◌, List, [], ◌∷◌, ◌++◌, take, append-nil, slice_get, Some, Result, Ok, Err, All, refl, sym, ap, subst, ◌∙◌}
 use Rattle.std.specs.List.{cons_option}
 use Rattle.std.specs.Map.{keys_of}
 use Rattle.std.specs.Result.{result_ok}
 use Rattle.std.proofs.lemmas.List.{take_more}
 use Rattle.std.proofs.lemmas.Option.{get_or_from_slice_get, slice_get_within}
 use Rattle.std.proofs.lemmas.List.Elements.{All-head, All-tail, All-cons, All-nil, filter_map-append}
+use Rattle.flow_points.specs.Flows.{Fetches}
 use Rattle.flow_points.specs.Sites.{IsCode}
 use Rattle.flow_points.specs.Causes.{codes_of}
 use Rattle.flow_points.specs.PointLists.{places_of}
@@ -37,26 +38,26 @@ no_code_more entries i e cause at is =
     ∙ append-nil (codes_of (take i entries)))
 
 -- an entry with code
-pub record IsGood (fetch : ℕ → Option ℕ) (e : Point × Site) : Type 0 where
+pub record IsGood (fetches : Fetches) (e : Point × Site) : Type 0 where
   pub code : CodePoint
   pub is : e.1.code ≡ Ok code
   pub place : code.point ≡ e.0
-  pub good : IsCode fetch code
+  pub good : IsCode fetches code
 
-module _ (fetch : ℕ → Option ℕ) where
-  code_first : (e : Point × Site) (es : List (Point × Site)) (good : IsGood fetch e) → codes_of (e ∷ es) ≡ good.code ∷ codes_of es
+module _ (fetches : Fetches) where
+  code_first : (e : Point × Site) (es : List (Point × Site)) (good : IsGood fetches e) → codes_of (e ∷ es) ≡ good.code ∷ codes_of es
   code_first e es good = ap (λ (r : Result CodePoint FlowRefusal). cons_option (result_ok r) (codes_of es)) good.is
 
-  pub codes_places : (es : List (Point × Site)) → All (IsGood fetch) es → places_of (codes_of es) ≡ keys_of es
+  pub codes_places : (es : List (Point × Site)) → All (IsGood fetches) es → places_of (codes_of es) ≡ keys_of es
   codes_places [] all = refl
   codes_places (e ∷ es) all =
-      let good = All-head (IsGood fetch) e es all in
+      let good = All-head (IsGood fetches) e es all in
       ap places_of (code_first e es good)
-      ∙ (λ i. good.place i ∷ codes_places es (All-tail (IsGood fetch) e es all) i)
+      ∙ (λ i. good.place i ∷ codes_places es (All-tail (IsGood fetches) e es all) i)
 
-  pub codes_good : (es : List (Point × Site)) → All (IsGood fetch) es → All (IsCode fetch) (codes_of es)
-  codes_good [] all = All-nil (IsCode fetch)
+  pub codes_good : (es : List (Point × Site)) → All (IsGood fetches) es → All (IsCode fetches) (codes_of es)
+  codes_good [] all = All-nil (IsCode fetches)
   codes_good (e ∷ es) all =
-      let good = All-head (IsGood fetch) e es all in
-      subst (All (IsCode fetch)) (sym (code_first e es good))
-      (All-cons (IsCode fetch) good.code (codes_of es) good.good (codes_good es (All-tail (IsGood fetch) e es all)))
+      let good = All-head (IsGood fetches) e es all in
+      subst (All (IsCode fetches)) (sym (code_first e es good))
+      (All-cons (IsCode fetches) good.code (codes_of es) good.good (codes_good es (All-tail (IsGood fetches) e es all)))

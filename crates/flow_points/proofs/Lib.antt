@@ -7,7 +7,7 @@ pub mod Closing
 pub mod Ranks
 pub mod Soonest
 pub mod AllReached
-pub mod Jumps
+pub mod Entering
 pub mod Candidates
 pub mod CausesFound
 pub mod Comparing

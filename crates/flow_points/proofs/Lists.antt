@@ -32,7 +32,7 @@ Contains-map f xs x h =
     (h.0, omega (arith, h.1, length-map xs f), get_or-map f xs h.0 x (f x) h.1 ∙ ap f h.2)
 
 -- an item of a list with a first item, and of a list that is mapped
-only : {X : Type 0} (x y : X) → Contains (x ∷ []) y → x ≡ y
+pub only : {X : Type 0} (x y : X) → Contains (x ∷ []) y → x ≡ y
 only x y k = let first : k.0 ≡ 0 = omega (arith, k.1) in subst (λ (n : ℕ). get_or (x ∷ []) n y ≡ y) first k.2
 
 pub cons_cases : {X : Type 0} (x : X) (xs : List X) (y : X) → Contains (x ∷ xs) y → (x ≡ y) ⊎ Contains xs y

@@ -1,15 +1,17 @@
 -- What follows of points, whatever the code is.
-use Rattle.std.proofs.Common.{◌≡◌, ◌↔◌, ◌≤◌, ◌<◌, ◌+◌, ℕ, nat_eq, List, length, get_or, false, Contains, refl, sym, ap, subst, inl, inr, arith}
+use Rattle.std.proofs.Common.{◌≡◌, ◌↔◌, ◌≤◌, ◌<◌, ◌+◌, ℕ, nat_eq, List, length, get_or, false, All, Contains, refl, sym, ap, subst, inl, inr, arith}
 use Rattle.std.specs.Cmp.{nat_cmp_is}
 use Rattle.std.specs.List.Sorted.{IsSorted, IsStrictlyIncreasing}
 use Rattle.std.specs.Ordering.{is_lt, nat_cmp}
 use Rattle.std.specs.declared.cmp.Ordering.TheVariants.{Equal, Greater}
 use Rattle.std.proofs.lemmas.Bool.{cases_lt}
 use Rattle.std.proofs.lemmas.List.{get_or-map, length-map}
-use Rattle.std.proofs.lemmas.List.Elements.{All-contains}
+use Rattle.std.proofs.lemmas.List.Elements.{All-contains, All-weaker}
 use Rattle.std.proofs.lemmas.List.Kept.{Contains-dedup_nat, Contains-from_dedup}
 use Rattle.std.proofs.lemmas.Map.Keys.{IsStrictlyIncreasing-dedup}
 use Rattle.elf_image.specs.declared.image.Image.{Image}
+use Rattle.rv_decode.specs.Instructions.{IsWellFormed}
+use Rattle.rvc_expand.proofs.Cited.{meaning_in_range}
 use Rattle.flow_points.specs.Walks.{FlowWalk, IsPoint, begin, onward, start, successors_of}
 use Rattle.flow_points.specs.Sites.{IsCode}
 use Rattle.flow_points.specs.PointLists.{FlowPoints, ArePointsOf, HasCode, IsBefore, entries_of, places_of}
@@ -32,8 +34,8 @@ begins points has = has.are.all (start points.entry) (begin (start points.entry)
 pub goes_on : (points : FlowPoints) (c : CodePoint) (to : Point) → HasCode points → Contains points.points c
     → Contains (successors_of c.point.proc_entry c.flow) to → Contains (places_of points.points) to
 goes_on points c to has at next =
-    let walk = All-contains (λ (d : CodePoint). FlowWalk has.fetch points.entry d.point) points.points c has.are.only at in
-    let code = All-contains (IsCode has.fetch) points.points c has.are.code at in
+    let walk = All-contains (λ (d : CodePoint). FlowWalk has.fetches points.entry d.point) points.points c has.are.only at in
+    let code = All-contains (IsCode has.fetches) points.points c has.are.code at in
     has.are.all to (onward c.point to c.flow walk code.flow next)
 
 not_below : (a b : ℕ) → b ≤ a → is_lt (nat_cmp a b) ≡ false
@@ -75,3 +77,9 @@ all_procedures points p has at =
 pub only_procedures : (points : FlowPoints) (p : ℕ) → HasCode points → Contains points.procedures p → Contains (entries_of points.points) p
 only_procedures points p has at =
     Contains-from_dedup nat_eq (entries_of points.points) p (subst (λ (ps : List ℕ). Contains ps p) has.are.procedures_are at)
+
+-- the fields of each point's instruction are in range
+pub in_range : (points : FlowPoints) → HasCode points → All (λ c. IsWellFormed c.instr) points.points
+in_range points has =
+    All-weaker (IsCode has.fetches) (λ c. IsWellFormed c.instr) (λ c code. meaning_in_range c.word c.length c.instr code.instr.means)
+    points.points has.are.code

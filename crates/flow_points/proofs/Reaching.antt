@@ -1,5 +1,5 @@
 -- What the search for points keeps.
-use Rattle.std.proofs.Common.{◌≡◌, ◌≢◌, ℕ, List, [], ◌∷◌, ◌++◌, length, false, Option, is_some, Result, Ok, Err, OnOk, All, Contains, refl, sym, ap, subst, ◌∙◌, arith, length-append}
+use Rattle.std.proofs.Common.{◌≡◌, ◌≢◌, ℕ, List, [], ◌∷◌, ◌++◌, length, false, is_some, Result, Ok, Err, OnOk, All, Contains, refl, sym, ap, subst, ◌∙◌, arith, length-append}
 use Rattle.std.specs.List.{IsDistinct}
 use Rattle.std.specs.Map.{keys_of, lookup}
 use Rattle.std.proofs.lemmas.List.Elements.{All-map, All-push, Contains-append_left, Contains-get_or, Contains-push}
@@ -7,8 +7,8 @@ use Rattle.std.proofs.lemmas.List.Quantifiers.{all_pairs_push}
 use Rattle.std.proofs.lemmas.Map.Entries.{length-keys_of}
 use Rattle.std.proofs.lemmas.Map.Made.{AllPairs-from_IsDistinct}
 use Rattle.std.proofs.lemmas.Map.Views.{IsSome-lookup_from_Contains}
-use Rattle.flow_points.specs.Flows.{HasFlow}
-use Rattle.flow_points.specs.Walks.{FlowWalk, HasMoreThan, onward, successors_of}
+use Rattle.flow_points.specs.Flows.{Fetches, HasFlow}
+use Rattle.flow_points.specs.Walks.{FlowWalk, HasMoreThan, most_points, onward, successors_of}
 use Rattle.flow_points.specs.Sites.{Adds, AreSites, HasSite, IsSite}
 use Rattle.flow_points.specs.Causes.{same_point}
 use Rattle.flow_points.specs.declared.code_points.Point.{Point}
@@ -17,10 +17,10 @@ use Rattle.flow_points.specs.declared.code_points.Flow.{Flow}
 use Rattle.flow_points.proofs.SamePoint.{laws, tells}
 use Rattle.flow_points.proofs.Lists.{all_one, all_two}
 
-pub reached_by : (fetch : ℕ → Option ℕ) (entry : ℕ) (from to : Point) (flow is : Flow) → FlowWalk fetch entry from
-    → HasFlow fetch from.address flow → flow ≡ is → Contains (successors_of from.proc_entry is) to → FlowWalk fetch entry to
-reached_by fetch entry from to flow is walk has e there =
-    onward from to is walk (subst (λ (f : Flow). HasFlow fetch from.address f) e has) there
+pub reached_by : (fetches : Fetches) (entry : ℕ) (from to : Point) (flow is : Flow) → FlowWalk fetches entry from
+    → HasFlow fetches from.address flow → flow ≡ is → Contains (successors_of from.proc_entry is) to → FlowWalk fetches entry to
+reached_by fetches entry from to flow is walk has e there =
+    onward from to is walk (subst (λ (f : Flow). HasFlow fetches from.address f) e has) there
 
 pub keys_added : (old more : List (Point × Site)) → keys_of (old ++ more) ≡ keys_of old ++ keys_of more
 keys_added [] more = refl
@@ -34,16 +34,16 @@ pub new_there : (old new : List (Point × Site)) (p : Point) (s : Site) → new 
 new_there old new p s e =
     subst (λ ks. Contains ks p) (sym (ap keys_of e ∙ keys_added old ((p, s) ∷ []))) (Contains-push (keys_of old) p)
 
-pub one_more : (fetch : ℕ → Option ℕ) (entry : ℕ) (old new : List (Point × Site)) (p : Point) (s : Site)
-    → AreSites fetch entry old → (length old ≡ 4096 → ⊥) → FlowWalk fetch entry p → IsSite fetch p s
-    → new ≡ old ++ (p, s) ∷ [] → Adds fetch entry old new
-one_more fetch entry old new p s are room walk is e =
+pub one_more : (fetches : Fetches) (entry : ℕ) (old new : List (Point × Site)) (p : Point) (s : Site)
+    → AreSites fetches entry old → (length old ≡ most_points → ⊥) → FlowWalk fetches entry p → IsSite fetches p s
+    → new ≡ old ++ (p, s) ∷ [] → Adds fetches entry old new
+one_more fetches entry old new p s are room walk is e =
     record {
       more = (p, s) ∷ [];
       after = e;
-      sites = subst (AreSites fetch entry) (sym e) (record {
-        reached = All-push (λ d. FlowWalk fetch entry d.0) old (p, s) are.reached walk;
-        sites = All-push (λ d. IsSite fetch d.0 d.1) old (p, s) are.sites is;
+      sites = subst (AreSites fetches entry) (sym e) (record {
+        reached = All-push (λ d. FlowWalk fetches entry d.0) old (p, s) are.reached walk;
+        sites = All-push (λ d. IsSite fetches d.0 d.1) old (p, s) are.sites is;
         few = let below = are.few in omega (arith, length-append old ((p, s) ∷ []));
       });
     }
@@ -61,22 +61,22 @@ pub one_there : {T E : Type 0} (r : Result T E) (new : List (Point × Site)) (p 
 one_there r new p flow is x e s =
     on_ok r (λ h. subst (All (HasSite new)) (sym (ap (successors_of p) e ∙ s)) (all_one (HasSite new) x h))
 
-pub two_there : {T E : Type 0} (r : Result T E) (fetch : ℕ → Option ℕ) (entry : ℕ) (mid new : List (Point × Site)) (p : ℕ)
+pub two_there : {T E : Type 0} (r : Result T E) (fetches : Fetches) (entry : ℕ) (mid new : List (Point × Site)) (p : ℕ)
     (flow is : Flow) (x y : Point) → flow ≡ is → successors_of p is ≡ x ∷ y ∷ [] → HasSite mid x
-    → Adds fetch entry mid new → OnOk r (HasSite new y) → OnOk r (All (HasSite new) (successors_of p flow))
-two_there r fetch entry mid new p flow is x y e s there adds =
+    → Adds fetches entry mid new → OnOk r (HasSite new y) → OnOk r (All (HasSite new) (successors_of p flow))
+two_there r fetches entry mid new p flow is x y e s there adds =
     on_ok r (λ h. subst (All (HasSite new)) (sym (ap (successors_of p) e ∙ s))
     (all_two (HasSite new) x y (still_there mid new adds.more x adds.after there) h))
 
 -- a point that isn't there where there are as many as may be
-pub more_points : (fetch : ℕ → Option ℕ) (entry : ℕ) (entries : List (Point × Site)) (p : Point)
-    → AreSites fetch entry entries → IsDistinct same_point (keys_of entries)
-    → is_some (lookup (same_point p) entries) ≡ false → length entries ≡ 4096 → FlowWalk fetch entry p
-    → HasMoreThan fetch entry 4096
-more_points fetch entry entries p are apart absent full walk =
+pub more_points : (fetches : Fetches) (entry : ℕ) (entries : List (Point × Site)) (p : Point)
+    → AreSites fetches entry entries → IsDistinct same_point (keys_of entries)
+    → is_some (lookup (same_point p) entries) ≡ false → length entries ≡ most_points → FlowWalk fetches entry p
+    → HasMoreThan fetches entry most_points
+more_points fetches entry entries p are apart absent full walk =
     record {
       points = keys_of entries ++ p ∷ [];
-      reached = All-push (FlowWalk fetch entry) (keys_of entries) p (All-map (FlowWalk fetch entry) (λ (e : Point × Site). e.0) entries are.reached) walk;
+      reached = All-push (FlowWalk fetches entry) (keys_of entries) p (All-map (FlowWalk fetches entry) (λ (e : Point × Site). e.0) entries are.reached) walk;
       apart = all_pairs_push (λ q r. q ≢ r) (keys_of entries) p (AllPairs-from_IsDistinct tells (keys_of entries) apart)
           (λ k d lt e. let there : HasSite entries p = subst (Contains (keys_of entries)) e (Contains-get_or (keys_of entries) k d lt) in
           let found = IsSome-lookup_from_Contains laws p entries there in cc);

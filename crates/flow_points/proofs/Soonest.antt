@@ -1,5 +1,5 @@
 -- The soonest of a list of causes.
-use Rattle.std.proofs.Common.{◌≡◌, ◌⊎◌, ℕ, ◌+◌, Bool, true, false, List, [], ◌∷◌, ◌++◌, take, map, fold, Option, None, Some, slice_get, All, Contains, refl, sym, ap, subst, ◌∙◌, inl, inr, arith, if◌then◌else◌}
+use Rattle.std.proofs.Common.{◌≡◌, ◌⊎◌, ℕ, ◌+◌, ◌≤◌, Bool, true, false, List, [], ◌∷◌, ◌++◌, take, map, fold, Option, None, Some, slice_get, All, Contains, refl, sym, ap, subst, ◌∙◌, inl, inr, arith, if◌then◌else◌}
 use Rattle.std.proofs.lemmas.List.{map-append, take_more}
 use Rattle.std.proofs.lemmas.List.Sums.{fold-append}
 use Rattle.std.proofs.lemmas.List.Elements.{All-cons, All-head, All-nil, All-tail, Contains-append_right, Contains-get_or}
@@ -7,7 +7,7 @@ use Rattle.std.proofs.lemmas.Option.{get_or_from_slice_get, slice_get_within}
 use Rattle.flow_points.specs.Causes.{is_sooner, sooner}
 use Rattle.flow_points.specs.declared.refusal.FlowRefusal.{FlowRefusal}
 use Rattle.flow_points.proofs.Lists.{cons_cases}
-use Rattle.flow_points.proofs.Ranks.{NotBefore, sooner_rank, later_rank}
+use Rattle.flow_points.proofs.Ranks.{NotBefore, rank, sooner_rank, later_rank}
 
 pub fold_more : {A B X : Type 0} (f : B → A → B) (a : B) (g : X → A) (xs : List X) (i : ℕ) (x : X) → slice_get xs i ≡ Some x
     → fold f a (map g (take (i + 1) xs)) ≡ f (fold f a (map g (take i xs))) (g x)
@@ -16,7 +16,7 @@ fold_more f a g xs i x e =
     ap (λ ys. fold f a (map g ys)) more ∙ ap (fold f a) (map-append g (take i xs) (x ∷ [])) ∙ fold-append f a (map g (take i xs)) (g x ∷ [])
 
 -- the sooner one is one of the two, and neither is before what isn't after it
-is_one : (a b : Option FlowRefusal) (c : FlowRefusal) → sooner a b ≡ Some c → (a ≡ Some c) ⊎ (b ≡ Some c)
+pub is_one : (a b : Option FlowRefusal) (c : FlowRefusal) → sooner a b ≡ Some c → (a ≡ Some c) ⊎ (b ≡ Some c)
 is_one None b c e = inr e
 is_one (Some a) None c e = inl e
 is_one (Some a) (Some b) c e = by (is_sooner a b) e
@@ -24,6 +24,39 @@ is_one (Some a) (Some b) c e = by (is_sooner a b) e
     by : (t : Bool) → (if t then Some a else Some b) ≡ Some c → (Some a ≡ Some c) ⊎ (Some b ≡ Some c)
     by true d = inl d
     by false d = inr d
+
+-- one of the two is no later than either
+pub record IsNoLater (o : Option FlowRefusal) (c : FlowRefusal) : Type 0 where
+  pub cause : FlowRefusal
+  pub is : o ≡ Some cause
+  pub low : rank cause ≤ rank c
+
+pub itself_no_later : (o : Option FlowRefusal) (c : FlowRefusal) → o ≡ Some c → IsNoLater o c
+itself_no_later o c e = record { cause = c; is = e; low = omega arith }
+
+pub first_no_later : (a b : Option FlowRefusal) (c : FlowRefusal) → a ≡ Some c → IsNoLater (sooner a b) c
+first_no_later None b c e = cc
+first_no_later (Some a) None c e = itself_no_later (Some a) c e
+first_no_later (Some a) (Some b) c e = by (is_sooner a b) refl
+  where
+    one : a ≡ c
+    one = cc
+
+    by : (t : Bool) → is_sooner a b ≡ t → IsNoLater (if t then Some a else Some b) c
+    by true d = itself_no_later (Some a) c e
+    by false d = let later = later_rank a b d in let same = ap rank one in record { cause = b; is = refl; low = omega arith }
+
+pub second_no_later : (a b : Option FlowRefusal) (c : FlowRefusal) → b ≡ Some c → IsNoLater (sooner a b) c
+second_no_later None b c e = itself_no_later b c e
+second_no_later (Some a) None c e = cc
+second_no_later (Some a) (Some b) c e = by (is_sooner a b) refl
+  where
+    one : b ≡ c
+    one = cc
+
+    by : (t : Bool) → is_sooner a b ≡ t → IsNoLater (if t then Some a else Some b) c
+    by true d = let soon = sooner_rank a b d in let same = ap rank one in record { cause = a; is = refl; low = omega arith }
+    by false d = itself_no_later (Some b) c e
 
 not_before_either : (a b : Option FlowRefusal) (c : FlowRefusal) → NotBefore c (sooner a b) → NotBefore c a × NotBefore c b
 not_before_either None b c h = (tt, h)

@@ -2,18 +2,17 @@
 --
 --   address_of cause                 the address that a cause names
 --   number_of cause                  its number, in the order of the causes
---   HasCause fetch entry p cause     the point p is bad for this cause: what is bad at its address, or a
---                                    second half of a pair that is the start or that a jump goes to
+--   HasCause fetches entry p cause   the point p is bad for this cause: what is bad at its address, or a second
+--                                    half of a pair that is entered other than from its first half
 --   IsBad image p                    p is a point of the image and is bad
---   IsFirstCause fetch entry cause   some point is bad for it, no bad point has a lower address, and no
+--   IsFirstCause fetches entry cause some point is bad for it, no bad point has a lower address, and no
 --                                    cause of a lower number makes a point with that address bad
---   IsRefusal fetch entry refusal    why the code is refused: more than 4,096 points, else the first cause
+--   IsRefusal fetches entry refusal  why the code is refused: more points than the limit, else the first cause
 --   IsFlowRefusal image refusal      the same of an image
-use Rattle.std.specs.Prelude.{◌≡◌, ℕ, ◌≤◌, Option, Err}
-use Rattle.elf_image.specs.Images.{code_word}
+use Rattle.std.specs.Prelude.{◌≡◌, ℕ, ◌≤◌, Err}
 use Rattle.elf_image.specs.declared.image.Image.{Image}
-use Rattle.flow_points.specs.Flows.{IsSecondHalf, Judged}
-use Rattle.flow_points.specs.Walks.{FlowWalk, HasMoreThan, IsEntered}
+use Rattle.flow_points.specs.Flows.{Fetches, IsSecondHalf, Judged, fetches_of}
+use Rattle.flow_points.specs.Walks.{FlowWalk, HasMoreThan, IsEntered, most_points}
 use Rattle.flow_points.specs.declared.code_points.Point.{Point}
 use Rattle.flow_points.specs.declared.refusal.FlowRefusal.{FlowRefusal}
 use Rattle.flow_points.specs.declared.refusal.FlowRefusal.TheVariants.{TooManyPoints, OutsideCode, NoInstruction, OddLink, IndirectJump, MisalignedTarget, IntoPair, Memory}
@@ -38,27 +37,27 @@ number_of (MisalignedTarget a target) = 6
 number_of (IntoPair a) = 7
 number_of Memory = 8
 
-pub data HasCause (fetch : ℕ → Option ℕ) (entry : ℕ) (p : Point) (cause : FlowRefusal) : Type 0 where
-  there : Judged fetch p.address (Err cause) → HasCause fetch entry p cause
-  into_pair : IsEntered fetch entry p → IsSecondHalf fetch p.address → cause ≡ IntoPair p.address
-      → HasCause fetch entry p cause
+pub data HasCause (fetches : Fetches) (entry : ℕ) (p : Point) (cause : FlowRefusal) : Type 0 where
+  there : Judged fetches p.address (Err cause) → HasCause fetches entry p cause
+  into_pair : IsEntered fetches entry p → IsSecondHalf fetches p.address → cause ≡ IntoPair p.address
+      → HasCause fetches entry p cause
 
 abbrev pub IsBad : Image → Point → Type 0
-IsBad image p = FlowWalk (code_word image) image.entry p
-    × ((cause : FlowRefusal) × HasCause (code_word image) image.entry p cause)
+IsBad image p = FlowWalk (fetches_of image) image.entry p
+    × ((cause : FlowRefusal) × HasCause (fetches_of image) image.entry p cause)
 
-pub record IsFirstCause (fetch : ℕ → Option ℕ) (entry : ℕ) (cause : FlowRefusal) : Type 0 where
+pub record IsFirstCause (fetches : Fetches) (entry : ℕ) (cause : FlowRefusal) : Type 0 where
   pub at : Point
-  pub reached : FlowWalk fetch entry at
-  pub bad : HasCause fetch entry at cause
-  pub least_address : (p : Point) (other : FlowRefusal) → FlowWalk fetch entry p → HasCause fetch entry p other
+  pub reached : FlowWalk fetches entry at
+  pub bad : HasCause fetches entry at cause
+  pub least_address : (p : Point) (other : FlowRefusal) → FlowWalk fetches entry p → HasCause fetches entry p other
       → address_of cause ≤ address_of other
-  pub least_number : (p : Point) (other : FlowRefusal) → FlowWalk fetch entry p → HasCause fetch entry p other
+  pub least_number : (p : Point) (other : FlowRefusal) → FlowWalk fetches entry p → HasCause fetches entry p other
       → address_of other ≡ address_of cause → number_of cause ≤ number_of other
 
-pub data IsRefusal (fetch : ℕ → Option ℕ) (entry : ℕ) (refusal : FlowRefusal) : Type 0 where
-  too_many : HasMoreThan fetch entry 4096 → refusal ≡ TooManyPoints 4096 → IsRefusal fetch entry refusal
-  bad_point : (HasMoreThan fetch entry 4096 → ⊥) → IsFirstCause fetch entry refusal → IsRefusal fetch entry refusal
+pub data IsRefusal (fetches : Fetches) (entry : ℕ) (refusal : FlowRefusal) : Type 0 where
+  too_many : HasMoreThan fetches entry most_points → refusal ≡ TooManyPoints most_points → IsRefusal fetches entry refusal
+  bad_point : (HasMoreThan fetches entry most_points → ⊥) → IsFirstCause fetches entry refusal → IsRefusal fetches entry refusal
 
 abbrev pub IsFlowRefusal : Image → FlowRefusal → Type 0
-IsFlowRefusal image refusal = IsRefusal (code_word image) image.entry refusal
+IsFlowRefusal image refusal = IsRefusal (fetches_of image) image.entry refusal

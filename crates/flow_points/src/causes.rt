@@ -1,11 +1,11 @@
 //! The first cause that makes a point bad.
 
 ghost use Rattle.std.specs.Prelude.{◌≡◌};
-ghost use Rattle.flow_points.specs.Walks.{jump_of};
 ghost use Rattle.flow_points.specs.Refusals.{number_of, address_of};
-ghost use Rattle.flow_points.specs.Causes.{cause_of, first_cause_of, pair_cause, is_sooner, sooner};
+ghost use Rattle.flow_points.specs.Causes.{cause_into, cause_of, first_cause_of, flow_cause, is_sooner, pair_cause, sooner};
 
 use crate::code_points::{Flow, Point, Site};
+use crate::flows::prior;
 use crate::refusal::FlowRefusal;
 use crate::walks::{Sites, entry_at};
 
@@ -21,17 +21,56 @@ pub fn first_cause(sites: &Sites, start: Point) -> Option<FlowRefusal>
     first
 }
 
-// What is bad at a point, or a pair that it jumps into.
+// What is bad at a point, or a pair that its flow enters.
 fn cause_of(sites: &Sites, site: Site) -> Option<FlowRefusal>
     ensures { result ≡ cause_of sites.now.entries site }
 {
     match site.code {
-        Ok(code) => pair_cause(sites, jump_of(code.point.proc_entry, code.flow)?),
+        Ok(code) => flow_cause(sites, code.point, code.flow),
         Err(cause) => Some(cause),
     }
 }
 
-// The cause that a point to which a jump goes has, if it is the second half of a pair.
+// The sooner cause of those that a flow from this point enters.
+fn flow_cause(sites: &Sites, from: Point, flow: Flow) -> Option<FlowRefusal>
+    ensures { result ≡ flow_cause sites.now.entries from flow }
+{
+    match flow {
+        Flow::Next(next) => cause_into(sites, from, next),
+        Flow::Jump(target) => cause_into(sites, from, target),
+        Flow::Branch { next, target } => sooner(
+            cause_into(sites, from, next),
+            cause_into(sites, from, target),
+        ),
+        Flow::Call { target, next } => {
+            let called = Point {
+                proc_entry: target,
+                address: target,
+            };
+            sooner(pair_cause(sites, called), cause_into(sites, from, next))
+        }
+        Flow::Return | Flow::Halt => None,
+    }
+}
+
+// The cause of the point at an address where the flow goes from a point of the same procedure, unless that
+// is where its first half stands.
+fn cause_into(sites: &Sites, from: Point, address: u64) -> Option<FlowRefusal>
+    ensures { result ≡ cause_into sites.now.entries from address }
+{
+    if from.address == prior(address) {
+        return None;
+    }
+    pair_cause(
+        sites,
+        Point {
+            proc_entry: from.proc_entry,
+            address,
+        },
+    )
+}
+
+// The cause that a point has where it is entered, if it is the second half of a pair.
 fn pair_cause(sites: &Sites, point: Point) -> Option<FlowRefusal>
     ensures { result ≡ pair_cause sites.now.entries point }
 {
@@ -40,23 +79,6 @@ fn pair_cause(sites: &Sites, point: Point) -> Option<FlowRefusal>
         Some(FlowRefusal::IntoPair(point.address))
     } else {
         None
-    }
-}
-
-// Where a jump, a branch or a call goes.
-fn jump_of(proc_entry: u64, flow: Flow) -> Option<Point>
-    ensures { result ≡ jump_of proc_entry flow }
-{
-    match flow {
-        Flow::Jump(target) | Flow::Branch { target, .. } => Some(Point {
-            proc_entry,
-            address: target,
-        }),
-        Flow::Call { target, .. } => Some(Point {
-            proc_entry: target,
-            address: target,
-        }),
-        Flow::Next(_) | Flow::Return | Flow::Halt => None,
     }
 }
 

@@ -27,11 +27,13 @@ pub enum Flow {
     Halt,
 }
 
-/// A point with the instruction word at its address, its instruction and the instruction's flow.
+/// A point with the instruction word at its address, the word's length in bytes, 2 or 4, its instruction
+/// and the instruction's flow.
 #[derive(Clone, Copy, Debug, PartialEq, Eq)]
 pub struct CodePoint {
     pub point: Point,
     pub word: u32,
+    pub length: u8,
     pub instr: Instr,
     pub flow: Flow,
 }

@@ -1,6 +1,6 @@
 //! The flow of one instruction.
 
-ghost use Rattle.std.specs.Prelude.{◌≡◌};
+ghost use Rattle.std.specs.Prelude.{◌≡◌, ◌<◌};
 ghost use Rattle.flow_points.specs.Flows.{aligned, base_of, flow_of, indirect, linked, next, pair_target, plus, prior};
 
 use crate::code_points::Flow;
@@ -11,24 +11,33 @@ const ZERO: u8 = 0;
 
 const RA: u8 = 1;
 
-/// The flow of an instruction, or what is bad in it. `upper` is the field of the AUIPC before it, where
-/// the two are a pair.
-pub fn flow_of(address: u64, upper: Option<u32>, instr: &Instr) -> Result<Flow, FlowRefusal>
-    ensures { result ≡ flow_of address upper instr.now }
+/// The flow of an instruction, or what is bad in it. The instruction behind it stands at `next`. `upper` is
+/// the field of the AUIPC before it, where the two are a pair.
+pub fn flow_of(
+    unit: u8,
+    address: u64,
+    next: u64,
+    upper: Option<u32>,
+    instr: &Instr,
+) -> Result<Flow, FlowRefusal>
+    requires { 0 < unit }
+    ensures { result ≡ flow_of unit address next upper instr.now }
 {
     match *instr {
-        Instr::Jal { rd, off } => linked(address, rd, plus(address, off)),
+        Instr::Jal { rd, off } => linked(unit, address, next, rd, plus(address, off)),
         Instr::Branch { off, .. } => {
             let target = plus(address, off);
-            let next = next(address);
-            aligned(address, target, Flow::Branch { next, target })
+            aligned(unit, address, target, Flow::Branch { next, target })
         }
         Instr::Jalr { rd, rs1, imm } => match upper {
-            Some(upper) => linked(address, rd, pair_target(address, upper, imm)),
+            Some(upper) => {
+                let target = pair_target(address, upper, imm);
+                linked(unit, address, next, rd, target)
+            }
             None => indirect(address, rd, rs1, imm),
         },
         Instr::Ebreak => Ok(Flow::Halt),
-        _ => Ok(Flow::Next(next(address))),
+        _ => Ok(Flow::Next(next)),
     }
 }
 
@@ -42,17 +51,18 @@ pub fn base_of(instr: &Instr) -> u8
     }
 }
 
-/// The address of the instruction before this one.
+/// The address four bytes before this one.
 pub fn prior(address: u64) -> u64
     ensures { result ≡ prior address }
 {
     address.wrapping_sub(4)
 }
 
-fn next(address: u64) -> u64
-    ensures { result ≡ next address }
+/// The address of the instruction behind one of this length.
+pub fn next(address: u64, length: u8) -> u64
+    ensures { result ≡ next address length }
 {
-    address.wrapping_add(4)
+    address.wrapping_add(u64::from(length))
 }
 
 fn plus(address: u64, off: i32) -> u64
@@ -73,23 +83,22 @@ fn pair_target(address: u64, upper: u32, imm: i32) -> u64
 }
 
 // A jump or a call, by the register that it links through.
-fn linked(address: u64, rd: u8, target: u64) -> Result<Flow, FlowRefusal>
-    ensures { result ≡ linked address rd target }
+fn linked(unit: u8, address: u64, next: u64, rd: u8, target: u64) -> Result<Flow, FlowRefusal>
+    requires { 0 < unit }
+    ensures { result ≡ linked unit address next rd target }
 {
     match rd {
-        ZERO => aligned(address, target, Flow::Jump(target)),
-        RA => {
-            let next = next(address);
-            aligned(address, target, Flow::Call { target, next })
-        }
+        ZERO => aligned(unit, address, target, Flow::Jump(target)),
+        RA => aligned(unit, address, target, Flow::Call { target, next }),
         _ => Err(FlowRefusal::OddLink(address, rd)),
     }
 }
 
-fn aligned(address: u64, target: u64, flow: Flow) -> Result<Flow, FlowRefusal>
-    ensures { result ≡ aligned address target flow }
+fn aligned(unit: u8, address: u64, target: u64, flow: Flow) -> Result<Flow, FlowRefusal>
+    requires { 0 < unit }
+    ensures { result ≡ aligned unit address target flow }
 {
-    if target % 4 == 0 {
+    if target % u64::from(unit) == 0 {
         Ok(flow)
     } else {
         Err(FlowRefusal::MisalignedTarget(address, target))

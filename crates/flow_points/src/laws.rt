@@ -1,9 +1,10 @@
 //! What follows of points, whatever the code is, and of refusals.
 
-ghost use Rattle.std.specs.Prelude.{◌≡◌, ◌≢◌, ◌↔◌, ℕ, Contains};
+ghost use Rattle.std.specs.Prelude.{◌≡◌, ◌≢◌, ◌↔◌, ℕ, All, Contains};
+ghost use Rattle.rv_decode.specs.Instructions.{IsWellFormed};
 ghost use Rattle.elf_image.specs.declared.image.Image.{Image};
 ghost use Rattle.std.specs.List.Sorted.{IsStrictlyIncreasing};
-ghost use Rattle.flow_points.specs.Walks.{IsPoint, start, successors_of};
+ghost use Rattle.flow_points.specs.Walks.{IsPoint, most_points, start, successors_of};
 ghost use Rattle.flow_points.specs.Refusals.{IsBad, IsFlowRefusal, address_of};
 ghost use Rattle.flow_points.specs.declared.refusal.FlowRefusal.{FlowRefusal};
 ghost use Rattle.flow_points.specs.declared.refusal.FlowRefusal.TheVariants.{TooManyPoints};
@@ -23,6 +24,11 @@ pub fn points_are_closed()
         Contains (successors_of c.point.proc_entry c.flow) to → Contains (places_of points.points) to }
 {}
 
+/// The fields of each point's instruction are in range.
+pub fn instructions_are_in_range()
+    ensures { (points : FlowPoints) → HasCode points → All (λ c. IsWellFormed c.instr) points.points }
+{}
+
 /// The procedures ascend, and they are those of the points.
 pub fn procedures_ascend()
     ensures ascending { (points : FlowPoints) → HasCode points → IsStrictlyIncreasing points.procedures }
@@ -37,6 +43,6 @@ pub fn refusal_is_one()
 
 /// An image that isn't refused for the number of its points is refused at a bad one.
 pub fn refusal_names_a_bad_point()
-    ensures { (image : Image) (refusal : FlowRefusal) → IsFlowRefusal image refusal → refusal ≢ TooManyPoints 4096 →
+    ensures { (image : Image) (refusal : FlowRefusal) → IsFlowRefusal image refusal → refusal ≢ TooManyPoints most_points →
         (p : Point) × IsBad image p × (p.address ≡ address_of refusal) }
 {}

@@ -2,7 +2,7 @@
 
 ghost use Rattle.std.specs.Prelude.{◌≡◌, ◌<◌, ◌≤◌, Some, length, slice_get, Contains, IfNone, IfSome, IsSomeAnd};
 ghost use Rattle.std.specs.List.Sorted.{IsBinarySearchResult, IsSearchInRange};
-ghost use Rattle.flow_points.specs.Walks.{point};
+ghost use Rattle.flow_points.specs.Walks.{most_points, point};
 ghost use Rattle.flow_points.specs.PointLists.{HasCode, places_of, point_cmp};
 
 use crate::code_points::{CodePoint, Flow, Point};
@@ -42,10 +42,10 @@ impl Points {
         }
     }
 
-    /// How many points there are, 4,096 at most.
+    /// How many points there are, no more than the limit.
     pub fn count(&self) -> u32
         ensures count { result ≡ length self.now.points }
-        ensures few { result ≤ 4096 }
+        ensures few { result ≤ most_points }
     {
         self.points.len() as u32
     }
@@ -74,6 +74,14 @@ impl Points {
         self.code(i).word
     }
 
+    /// The length of its instruction in bytes.
+    pub fn length(&self, i: u32) -> u8
+        requires { i < length self.now.points }
+        ensures { IsSomeAnd (slice_get self.now.points i) (λ c. result ≡ c.length) }
+    {
+        self.code(i).length
+    }
+
     /// Where the flow goes on from it.
     pub fn flow(&self, i: u32) -> Flow
         requires { i < length self.now.points }
@@ -82,7 +90,7 @@ impl Points {
         self.code(i).flow
     }
 
-    /// The point of this number with its word, its instruction and its flow.
+    /// The point of this number with its word, the word's length, its instruction and its flow.
     pub fn code(&self, i: u32) -> CodePoint
         requires { i < length self.now.points }
         ensures { slice_get self.now.points i ≡ Some result }

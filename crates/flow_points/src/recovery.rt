@@ -4,7 +4,7 @@ ghost use Rattle.std.specs.Prelude.{◌≡◌, ◌≢◌, None, nat_eq, IfErr, I
 ghost use Rattle.std.specs.List.{IsDistinct, dedup};
 ghost use Rattle.std.specs.List.Sorted.{IsPermutation, IsSorted};
 ghost use Rattle.std.specs.Map.{keys_of};
-ghost use Rattle.elf_image.specs.Images.{code_word};
+ghost use Rattle.flow_points.specs.Flows.{fetches_of};
 ghost use Rattle.flow_points.specs.Walks.{start};
 ghost use Rattle.flow_points.specs.Refusals.{IsFlowRefusal};
 ghost use Rattle.flow_points.specs.Sites.{AreAllSites};
@@ -39,7 +39,7 @@ pub fn recover(alloc: Global, image: &Image) -> Result<Points, FlowRefusal>
 
 // The points that were found, where none is bad.
 fn listed(alloc: Global, image: &Image, mut sites: Sites) -> Result<Points, FlowRefusal>
-    requires all { AreAllSites (code_word image.now) image.now.entry sites.entries }
+    requires all { AreAllSites (fetches_of image.now) image.now.entry sites.entries }
     requires good { first_cause_of sites.entries (start image.now.entry) ≡ None }
     ensures points { IfOk result (ArePointsOf image.now) }
     ensures memory { IfErr result (λ e. e ≡ FlowRefusal.Memory) }

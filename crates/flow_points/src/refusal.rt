@@ -10,11 +10,12 @@ pub enum FlowRefusal {
     /// More points than this are reached.
     #[error("TooManyPoints {0}")]
     TooManyPoints(u32),
-    /// The four bytes at the address don't lie in one executable segment.
+    /// Nothing is fetched at the address: the bytes of an instruction there don't lie in one executable
+    /// segment, or it is no multiple of the unit.
     #[error("OutsideCode at {0:#x}")]
     OutsideCode(u64),
-    /// The instruction word, which stands for no instruction.
-    #[error("NoInstruction {1:08x} at {0:#x}")]
+    /// The instruction word, which with its length stands for no instruction.
+    #[error("NoInstruction {1:#x} at {0:#x}")]
     NoInstruction(u64, u32),
     /// A jump that links through this register, which is neither zero nor ra.
     #[error("OddLink {register} at {0:#x}", register = name(.1))]
@@ -22,10 +23,11 @@ pub enum FlowRefusal {
     /// A jump to the address in this register, which is no return and no second half of a pair.
     #[error("IndirectJump {register} at {0:#x}", register = name(.1))]
     IndirectJump(u64, u8),
-    /// A jump, branch or call to this target, which is no multiple of 4.
+    /// A jump, branch or call to this target, which is no multiple of the unit.
     #[error("MisalignedTarget {1:#x} at {0:#x}")]
     MisalignedTarget(u64, u64),
-    /// The second half of a pair, where the start is, or where a jump, a branch or a call goes.
+    /// The second half of a pair, which is the start, a call's target, or where the flow goes on from another
+    /// point than its first half.
     #[error("IntoPair at {0:#x}")]
     IntoPair(u64),
     /// Out of memory.

@@ -1,32 +1,35 @@
 //! What there is at a point.
 
 ghost use Rattle.std.specs.Prelude.{◌≡◌, false};
-ghost use Rattle.elf_image.specs.Images.{code_word};
-ghost use Rattle.flow_points.specs.Flows.{HasUpper};
+ghost use Rattle.flow_points.specs.Flows.{HasUpper, fetches_of};
 ghost use Rattle.flow_points.specs.Sites.{IsSite, auipc_field};
 
 use crate::code_points::{CodePoint, Point, Site};
-use crate::flows::{base_of, flow_of, prior};
+use crate::flows::{base_of, flow_of, next, prior};
 use crate::refusal::FlowRefusal;
 use elf_image::Image;
 use rv_decode::{Instr, decode};
+use rvc_expand::decode_with_length;
 
 /// What there is at a point.
 pub fn site_at(image: &Image, point: Point) -> Site
-    ensures { IsSite (code_word image.now) point result }
+    ensures { IsSite (fetches_of image.now) point result }
 {
+    image.known();
     let address = point.address;
-    let Some(word) = image.code_word_at(address) else {
+    let Some(at) = image.code_at(address) else {
         return bad(FlowRefusal::OutsideCode(address));
     };
-    let Some(instr) = decode(word) else {
-        return bad(FlowRefusal::NoInstruction(address, word));
+    let Some(instr) = decode_with_length(at.word, at.length) else {
+        return bad(FlowRefusal::NoInstruction(address, at.word));
     };
     let upper = upper_before(image, address, base_of(&instr));
-    let code = match flow_of(address, upper, &instr) {
+    let next = next(address, at.length);
+    let code = match flow_of(image.unit, address, next, upper, &instr) {
         Ok(flow) => Ok(CodePoint {
             point,
-            word,
+            word: at.word,
+            length: at.length,
             instr,
             flow,
         }),
@@ -38,9 +41,9 @@ pub fn site_at(image: &Image, point: Point) -> Site
     }
 }
 
-// The field of the AUIPC before an address, where its destination is this register and not zero.
+// The field of the AUIPC in the four bytes before an address, where its destination is this register and not zero.
 fn upper_before(image: &Image, address: u64, register: u8) -> Option<u32>
-    ensures { HasUpper (code_word image.now) address register result }
+    ensures { HasUpper (fetches_of image.now) address register result }
 {
     if register == 0 {
         return None;

@@ -30,18 +30,36 @@ const EBREAK: u32 = 0x00100073;
 
 const RETURN: u32 = 0x00008067;
 
-/// The points of a small file with this code.
-fn points_of(alloc: Global, words: &[u32]) -> Result<Result<Points, FlowRefusal>, Fail> {
-    let mut bytes = Vec::from_slice(alloc, &HEADERS[..96])?;
-    let length = 120 + 4 * words.len() as u64;
+/// The points of a small file with these flags and this code.
+fn points_in(alloc: Global, flags: u8, code: &[u8]) -> Result<Result<Points, FlowRefusal>, Fail> {
+    let mut bytes = Vec::from_slice(alloc, &HEADERS[..48])?;
+    bytes.push(flags)?;
+    bytes.extend_from_slice(&HEADERS[49..96])?;
+    let length = 120 + code.len() as u64;
     bytes.extend_from_slice(&length.to_le_bytes())?;
     bytes.extend_from_slice(&length.to_le_bytes())?;
     bytes.extend_from_slice(&HEADERS[112..])?;
-    for word in words {
-        bytes.extend_from_slice(&word.to_le_bytes())?;
-    }
+    bytes.extend_from_slice(code)?;
     let image = read_image(alloc, &bytes)?;
     Ok(recover(alloc, &image))
+}
+
+/// The same where the code has these words.
+fn points_of(alloc: Global, words: &[u32]) -> Result<Result<Points, FlowRefusal>, Fail> {
+    let mut code = Vec::new(alloc);
+    for word in words {
+        code.extend_from_slice(&word.to_le_bytes())?;
+    }
+    points_in(alloc, 0, &code)
+}
+
+/// The same where the code may be compressed and has these halves.
+fn points_of_halves(alloc: Global, halves: &[u16]) -> Result<Result<Points, FlowRefusal>, Fail> {
+    let mut code = Vec::new(alloc);
+    for half in halves {
+        code.extend_from_slice(&half.to_le_bytes())?;
+    }
+    points_in(alloc, 1, &code)
 }
 
 /// So many words that go on to the next, and one more.
@@ -113,6 +131,7 @@ fn code_of_points(rt: HostRuntime) -> Result<(), Fail> {
         assert_eq!(rt; points.flow(i), flows[i as usize]);
     }
     assert_eq!(rt; points.word(1), 0x00c080e7);
+    assert_eq!(rt; points.length(1), 4);
     assert_eq!(rt; points.instr(2), rv_decode::Instr::Ebreak);
     assert_eq!(rt; points.code(3).word, RETURN);
     assert_eq!(rt; points.procedures(), [0x10078, 0x10084].as_slice());
@@ -151,7 +170,7 @@ fn refusals(rt: HostRuntime) -> Result<(), Fail> {
         (
             &[0],
             FlowRefusal::NoInstruction(0x10078, 0),
-            "NoInstruction 00000000 at 0x10078",
+            "NoInstruction 0x0 at 0x10078",
         ),
         // auipc ra,0x0; jal zero,4; jalr zero,12(ra): an AUIPC that doesn't stand before the JALR
         (
@@ -175,11 +194,75 @@ fn refusals(rt: HostRuntime) -> Result<(), Fail> {
         assert_eq!(rt; points_of(alloc, words)?.err(), Some(refusal));
         assert_eq!(rt; format!(in alloc; "{refusal}")?.as_str(), text);
     }
-    let most = points_of(alloc, &straight(alloc, 4095, EBREAK)?)??;
-    assert_eq!(rt; most.count(), 4096);
+    let most = points_of(alloc, &straight(alloc, 16383, EBREAK)?)??;
+    assert_eq!(rt; most.count(), 16384);
     let outside = points_of(alloc, &straight(alloc, 4094, NOP)?)?.err();
     assert_eq!(rt; outside, Some(FlowRefusal::OutsideCode(0x14074)));
-    let many = points_of(alloc, &straight(alloc, 4096, EBREAK)?)?.err();
-    assert_eq!(rt; many, Some(FlowRefusal::TooManyPoints(4096)));
+    let many = points_of(alloc, &straight(alloc, 16384, EBREAK)?)?.err();
+    assert_eq!(rt; many, Some(FlowRefusal::TooManyPoints(16384)));
+    Ok(())
+}
+
+#[test]
+fn compressed_points(rt: HostRuntime) -> Result<(), Fail> {
+    let alloc = rt.alloc();
+    let files: [(&[u16], &[(u64, u64, u8)]); 3] = [
+        // c.li a0,5; c.ebreak
+        (
+            &[0x4515, 0x9002],
+            &[(0x10078, 0x10078, 2), (0x10078, 0x1007a, 2)],
+        ),
+        // jal zero,6; c.ebreak; c.ebreak: the target is no multiple of 4
+        (
+            &[0x006f, 0x0060, 0x9002, 0x9002],
+            &[(0x10078, 0x10078, 4), (0x10078, 0x1007e, 2)],
+        ),
+        // auipc ra,0x0; jalr ra,10(ra); c.ebreak; c.jr ra
+        (
+            &[0x0097, 0x0000, 0x80e7, 0x00a0, 0x9002, 0x8082],
+            &[
+                (0x10078, 0x10078, 4),
+                (0x10078, 0x1007c, 4),
+                (0x10078, 0x10080, 2),
+                (0x10082, 0x10082, 2),
+            ],
+        ),
+    ];
+    for (halves, expected) in files {
+        let points = points_of_halves(alloc, halves)??;
+        assert_eq!(rt; points.count() as usize, expected.len());
+        for i in 0..points.count() {
+            let (proc_entry, address, length) = expected[i as usize];
+            let point = Point {
+                proc_entry,
+                address,
+            };
+            assert_eq!(rt; points.point(i), point);
+            assert_eq!(rt; points.length(i), length);
+        }
+    }
+    Ok(())
+}
+
+#[test]
+fn compressed_refusals(rt: HostRuntime) -> Result<(), Fail> {
+    let alloc = rt.alloc();
+    let files: [(&[u16], FlowRefusal); 5] = [
+        (&[0], FlowRefusal::NoInstruction(0x10078, 0)),
+        // c.jr gp
+        (&[0x8182], FlowRefusal::IndirectJump(0x10078, 3)),
+        // addi a0,a4,9; c.nop; c.jalr ra; c.ebreak: the bytes at 0x1007a look like auipc ra,0x10
+        (
+            &[0x0513, 0x0097, 0x0001, 0x9082, 0x9002],
+            FlowRefusal::IntoPair(0x1007e),
+        ),
+        // c.nop
+        (&[0x0001], FlowRefusal::OutsideCode(0x1007a)),
+        // c.nop, and half of an addi
+        (&[0x0001, 0x0513], FlowRefusal::OutsideCode(0x1007a)),
+    ];
+    for (halves, refusal) in files {
+        assert_eq!(rt; points_of_halves(alloc, halves)?.err(), Some(refusal));
+    }
     Ok(())
 }

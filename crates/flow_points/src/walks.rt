@@ -1,8 +1,7 @@
 //! The points that walks along the flow reach.
 
 ghost use Rattle.std.specs.Prelude.{◌≡◌, ◌<◌, length, slice_get, All, IfOk, IfErr, OnOk};
-ghost use Rattle.elf_image.specs.Images.{code_word};
-ghost use Rattle.flow_points.specs.Flows.{HasFlow};
+ghost use Rattle.flow_points.specs.Flows.{HasFlow, fetches_of};
 ghost use Rattle.flow_points.specs.Walks.{FlowWalk, point, successors_of};
 ghost use Rattle.flow_points.specs.Sites.{AreSites, AreAllSites, Adds, HasSuccessors, HasSite, IsStop};
 
@@ -16,13 +15,13 @@ use std::alloc::Global;
 /// Points with what there is at each, in the order in which they were found.
 pub type Sites = IndexMap<Point, Site>;
 
-const MOST_POINTS: usize = 4096;
+const MOST_POINTS: usize = 16384;
 
 /// All points that are reached, with what there is at each. It stops where it is out of memory, or where
 /// there are more points than the limit.
 pub fn reached(alloc: Global, image: &Image) -> Result<Sites, FlowRefusal>
-    ensures all { IfOk result (λ sites. AreAllSites (code_word image.now) image.now.entry sites.entries) }
-    ensures stop { IfErr result (IsStop (code_word image.now) image.now.entry) }
+    ensures all { IfOk result (λ sites. AreAllSites (fetches_of image.now) image.now.entry sites.entries) }
+    ensures stop { IfErr result (IsStop (fetches_of image.now) image.now.entry) }
 {
     let mut sites = IndexMap::new(alloc);
     add(&mut sites, image, image.entry, image.entry)?;
@@ -48,10 +47,10 @@ pub fn entry_at(sites: &Sites, at: usize) -> (Point, Site)
 // Adds where the flow goes on from the point that was found as the one of this number.
 fn follow(sites: &mut Sites, image: &Image, at: usize) -> Result<(), FlowRefusal>
     requires number { at < length sites.old.entries }
-    requires sites { AreSites (code_word image.now) image.now.entry sites.old.entries }
-    ensures adds { Adds (code_word image.now) image.now.entry sites.old.entries sites.new.entries }
+    requires sites { AreSites (fetches_of image.now) image.now.entry sites.old.entries }
+    ensures adds { Adds (fetches_of image.now) image.now.entry sites.old.entries sites.new.entries }
     ensures there { OnOk result (HasSuccessors sites.new.entries (slice_get sites.old.entries at)) }
-    ensures stop { IfErr result (IsStop (code_word image.now) image.now.entry) }
+    ensures stop { IfErr result (IsStop (fetches_of image.now) image.now.entry) }
 {
     let (point, site) = entry_at(sites, at);
     match site.code {
@@ -66,12 +65,12 @@ fn add_successors(
     from: Point,
     flow: Flow,
 ) -> Result<(), FlowRefusal>
-    requires sites { AreSites (code_word image.now) image.now.entry sites.old.entries }
-    requires reached { FlowWalk (code_word image.now) image.now.entry from }
-    requires flow { HasFlow (code_word image.now) from.address flow }
-    ensures adds { Adds (code_word image.now) image.now.entry sites.old.entries sites.new.entries }
+    requires sites { AreSites (fetches_of image.now) image.now.entry sites.old.entries }
+    requires reached { FlowWalk (fetches_of image.now) image.now.entry from }
+    requires flow { HasFlow (fetches_of image.now) from.address flow }
+    ensures adds { Adds (fetches_of image.now) image.now.entry sites.old.entries sites.new.entries }
     ensures there { OnOk result (All (HasSite sites.new.entries) (successors_of from.proc_entry flow)) }
-    ensures stop { IfErr result (IsStop (code_word image.now) image.now.entry) }
+    ensures stop { IfErr result (IsStop (fetches_of image.now) image.now.entry) }
 {
     let proc_entry = from.proc_entry;
     match flow {
@@ -91,11 +90,11 @@ fn add_successors(
 
 // Adds the point at an address in a procedure, if it isn't there.
 fn add(sites: &mut Sites, image: &Image, proc_entry: u64, address: u64) -> Result<(), FlowRefusal>
-    requires sites { AreSites (code_word image.now) image.now.entry sites.old.entries }
-    requires reached { FlowWalk (code_word image.now) image.now.entry (point proc_entry address) }
-    ensures adds { Adds (code_word image.now) image.now.entry sites.old.entries sites.new.entries }
+    requires sites { AreSites (fetches_of image.now) image.now.entry sites.old.entries }
+    requires reached { FlowWalk (fetches_of image.now) image.now.entry (point proc_entry address) }
+    ensures adds { Adds (fetches_of image.now) image.now.entry sites.old.entries sites.new.entries }
     ensures there { OnOk result (HasSite sites.new.entries (point proc_entry address)) }
-    ensures stop { IfErr result (IsStop (code_word image.now) image.now.entry) }
+    ensures stop { IfErr result (IsStop (fetches_of image.now) image.now.entry) }
 {
     let point = Point {
         proc_entry,

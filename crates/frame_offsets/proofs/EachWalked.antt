@@ -33,14 +33,14 @@ module _ (points : FlowPoints) (has : HasCode points) where
   entered c to there e is =
       ([], begin [] c refl there (e ∙ is ∙ ap (λ (q : Point). point q.proc_entry q.proc_entry) (sym e)))
 
-  walked : (to : Point) → FlowWalk has.fetch points.entry to → (c : CodePoint) → Contains points.points c → c.point ≡ to
+  walked : (to : Point) → FlowWalk has.fetches points.entry to → (c : CodePoint) → Contains points.points c → c.point ≡ to
       → (walk : List CodePoint) × FrameWalk points.points c.point.proc_entry walk c
   walked to (begin_flow start is) c there e = entered c start there e (is ∙ ap (λ (q : Point). point q.proc_entry q.proc_entry) (sym is))
   walked to (onward_flow from next flow before flows goes) c there e =
       let found = from_map (λ (d : CodePoint). d.point) points.points from (has.are.all from before) in
-      let code = All-contains (IsCode has.fetch) points.points found.0 has.are.code found.1 in
+      let code = All-contains (IsCode has.fetches) points.points found.0 has.are.code found.1 in
       let same = same_flow found.0.flow flow
-      (judged_once has.fetch from.address (Ok found.0.flow) (Ok flow) (subst (λ (q : Point). HasFlow has.fetch q.address found.0.flow) found.2 code.flow) flows) in
+      (judged_once has.fetches from.address (Ok found.0.flow) (Ok flow) (subst (λ (q : Point). HasFlow has.fetches q.address found.0.flow) found.2 code.flow) flows) in
       elim (stays_or_enters from.proc_entry flow next goes) [
         | inl stays ↦
             let earlier = walked from before found.0 found.1 found.2 in
@@ -54,4 +54,4 @@ module _ (points : FlowPoints) (has : HasCode points) where
 pub has_walk : (points : FlowPoints) (c : CodePoint) → HasCode points → Contains points.points c
     → (walk : List CodePoint) × FrameWalk points.points c.point.proc_entry walk c
 has_walk points c has there =
-    walked points has c.point (All-contains (λ (d : CodePoint). FlowWalk has.fetch points.entry d.point) points.points c has.are.only there) c there refl
+    walked points has c.point (All-contains (λ (d : CodePoint). FlowWalk has.fetches points.entry d.point) points.points c has.are.only there) c there refl

@@ -1,6 +1,12 @@
 pub mod Walking
 pub mod Justified
-pub mod Passing
+pub mod Knowing
+pub mod JoinedRows
+pub mod Growing
+pub mod PassedOn
+pub mod Listing
+pub mod Visiting
+pub mod Opening
 pub mod EachWalked
 pub mod Covering
 pub mod Registers

@@ -6,7 +6,7 @@ use Rattle.rv_decode.specs.declared.instructions.Instr.TheVariants.{Imm}
 use Rattle.rv_decode.specs.declared.instructions.ImmOp.TheVariants.{Addi}
 use Rattle.flow_points.specs.declared.code_points.Flow.{Flow}
 use Rattle.flow_points.specs.declared.code_points.Flow.TheVariants.{Call}
-use Rattle.frame_offsets.specs.Frames.{kept_unless, source_in, source_of, written_by}
+use Rattle.frame_offsets.specs.Frames.{is_kept_by_calls, kept_unless, source_in, source_of, written_by}
 
 kept_is : (o : Option ℕ) (r : ℕ) (s : ℕ × ℤ) → kept_unless o r ≡ Some s → s.0 ≡ r
 kept_is None r s e = let same : (r, pos 0) ≡ s = cc in sym (ap (λ (x : ℕ × ℤ). x.0) same)
@@ -25,10 +25,10 @@ in_within (Imm Addi rd rs1 imm) r s wf lt e = by (eqb rd r) e
 in_within instr r s wf lt e = let same = kept_is (written_by instr) r s e in omega arith
 
 pub source_within : (instr : Instr) (flow : Flow) (r : ℕ) (s : ℕ × ℤ) → IsWellFormed instr → r < 32 → source_of instr flow r ≡ Some s → s.0 < 32
-source_within instr (Call t n) r s wf lt e = by (eqb r 2) e
+source_within instr (Call t n) r s wf lt e = by (is_kept_by_calls r) e
   where
-    by : (b : Bool) → (if b then Some (2, pos 0) else None) ≡ Some s → s.0 < 32
-    by true d = let same : (2, pos 0) ≡ s = cc in subst (λ (x : ℕ × ℤ). x.0 < 32) same (omega arith)
+    by : (b : Bool) → (if b then Some (r, pos 0) else None) ≡ Some s → s.0 < 32
+    by true d = let same : (r, pos 0) ≡ s = cc in subst (λ (x : ℕ × ℤ). x.0 < 32) same lt
     by false d = cc
 source_within instr flow r s wf lt e = by (eqb r 0) e
   where

@@ -5,15 +5,14 @@ use Rattle.std.proofs.lemmas.List.Elements.{All-contains, All-nil}
 use Rattle.std.proofs.lemmas.Bool.{cases_lt}
 use Rattle.std.proofs.lemmas.Option.{get_or_from_slice_get, slice_get_within}
 use Rattle.rv_decode.specs.Instructions.{IsWellFormed}
-use Rattle.rv_decode.proofs.Table.{in_range}
 use Rattle.flow_points.specs.Flows.{plus}
 use Rattle.flow_points.specs.Walks.{point}
-use Rattle.flow_points.specs.Sites.{IsCode}
 use Rattle.flow_points.specs.PointLists.{FlowPoints, HasCode, IsBefore}
 use Rattle.flow_points.specs.declared.code_points.Point.{Point}
 use Rattle.flow_points.specs.declared.code_points.Flow.{Flow}
 use Rattle.flow_points.specs.declared.code_points.Flow.TheVariants.{Next, Jump, Branch, Call, Return, Halt}
 use Rattle.flow_points.specs.declared.code_points.CodePoint.{CodePoint}
+use Rattle.flow_points.proofs.PointLaws.{in_range}
 use Rattle.flow_points.proofs.Cited.{all_one, all_two, item_there}
 use Rattle.frame_offsets.specs.Frames.{FrameWalk, at_entry, begin, goes_on, moved, offsets_after, onward, source_of}
 
@@ -80,8 +79,7 @@ walk_proc points p walk c (onward w earlier from to before e at goes) = goes_pro
 
 pub well_formed : (points : FlowPoints) (i : ℕ) (c : CodePoint) → HasCode points → slice_get points.points i ≡ Some c → IsWellFormed c.instr
 well_formed points i c has e =
-    let code = All-contains (IsCode has.fetch) points.points c has.are.code (item_there points.points i c e) in
-    (in_range c.word c.instr code.means).0
+    All-contains (λ d. IsWellFormed d.instr) points.points c (in_range points has) (item_there points.points i c e)
 
 pub at_some : {X : Type 0} (o : Option X) (x : X) (P : X → Type 0) → o ≡ Some x → IsSomeAnd o P → P x
 at_some {X = X} o x P e h = subst (λ (p : Option X). IsSomeAnd p P) e h

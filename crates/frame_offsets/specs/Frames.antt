@@ -1,12 +1,14 @@
 -- Offsets of registers along walks of a procedure. An offset is a word: what a register holds is sp at the
--- procedure's entry plus the offset, wrapping at 2^64. Registers are numbers; zero is 0, sp is 2, a0 is 10.
+-- procedure's entry plus the offset, wrapping at 2^64. Registers are numbers: zero is 0, sp is 2, s0 and s1 are 8
+-- and 9, s2 to s11 are 18 to 27, a0 is 10.
 --
 --   written_by instr            the register that an instruction writes; ECALL writes a0
 --   kept_unless written r       r itself with nothing added, unless it is the register that is written
 --   source_in instr r           the register whose offset r has after an instruction, and what is added to
 --                               it: only ADDI moves an offset, and each other write takes r's away
---   source_of instr flow r      the same with the flow: a call keeps the offset of sp and takes the others,
---                               and zero never has one
+--   is_kept_by_calls r          r is sp or one of s0 to s11
+--   source_of instr flow r      the same with the flow: a call keeps the offsets of sp and of s0 to s11 and takes
+--                               the others away, and zero never has one
 --   moved source offsets        the offset from this source
 --   at_entry r                  the offsets at the entry: 0 for sp
 --   offsets_after walk r        the offset of r after the code points of a walk, the last of which is first
@@ -18,7 +20,7 @@
 --   AreOffsets points offsets   offsets has for each point in turn those of the 32 registers
 --   AreOffsetsOf points offsets the same for the points of an image
 --   offset_at offsets i r       the offset of r at point i
-use Rattle.std.specs.Prelude.{◌≡◌, ℕ, ◌+◌, ◌*◌, ◌<◌, ◌==◌, ℤ, pos, List, [], ◌∷◌, length, Contains, Option, None, Some, MatchOption, option_map, slice_get, slice_index_or, if◌then◌else◌}
+use Rattle.std.specs.Prelude.{◌≡◌, ℕ, ◌+◌, ◌*◌, ◌<◌, ◌==◌, nat_le, Bool, ◌&&◌, ◌||◌, ℤ, pos, List, [], ◌∷◌, length, Contains, Option, None, Some, MatchOption, option_map, slice_get, slice_index_or, if◌then◌else◌}
 use Rattle.rv_decode.specs.declared.instructions.Instr.{Instr}
 use Rattle.rv_decode.specs.declared.instructions.Instr.TheVariants.{Lui, Auipc, Jal, Jalr, Branch as BranchInstr, Load, Store, Imm, Shift, Reg, Fence, Ecall, Ebreak}
 use Rattle.rv_decode.specs.declared.instructions.ImmOp.TheVariants.{Addi}
@@ -53,8 +55,11 @@ abbrev pub source_in : Instr → ℕ → Option (ℕ × ℤ)
 source_in (Imm Addi rd rs1 imm) r = if rd == r then Some (rs1, imm) else Some (r, pos 0)
 source_in instr r = kept_unless (written_by instr) r
 
+abbrev pub is_kept_by_calls : ℕ → Bool
+is_kept_by_calls r = r == 2 || r == 8 || r == 9 || (nat_le 18 r && nat_le r 27)
+
 abbrev pub source_of : Instr → Flow → ℕ → Option (ℕ × ℤ)
-source_of instr (Call target next) r = if r == 2 then Some (2, pos 0) else None
+source_of instr (Call target next) r = if is_kept_by_calls r then Some (r, pos 0) else None
 source_of instr flow r = if r == 0 then None else source_in instr r
 
 abbrev pub moved : Option (ℕ × ℤ) → (ℕ → Option ℕ) → Option ℕ

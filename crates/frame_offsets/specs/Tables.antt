@@ -13,18 +13,20 @@
 --   Unsettled points c r       two walks to c end with different offsets of r, or one with none
 --   IsJustified points c r known   walks to c say what is known
 --   AreJustified points table  so it is at each place of the table
---   passed_from points table i c r   what the code c of point i leaves in r
+--   passed_from table i c r    what the code c of point i leaves in r
 --   Knows known other          the first knows the other: it stays as it is where both are joined
---   IsPassed points table i j  point j knows what point i leaves
---   IsOpened table i           point i knows what is known at an entry
---   IsPassedOn points table i to      the point `to` knows what point i leaves
---   IsClosedAt points table i c       point i knows what is known at an entry, if it is one, and each point
---                              where a walk goes on from it knows what it leaves
---   AreClosedBelow points table n     so it is at each of the first n points
---   Changes points old new rose       the table is still justified; it changed, if rose, and else is the same
+--   at_row row r               what a row says of r
+--   IsRowJoined old new i row n rose   the first n registers of point i are joined with the row, and nothing else
+--                              changed; something did, if rose
+--   KnowsRow points table to row   the point `to` knows what the row says of each register
+--   IsOpenedAt points table p  the entry of the procedure p knows what is known at entries
+--   PassesOn points table i c  each point where a walk goes on from the code c of point i knows what it leaves
+--   AreSettled points table    walks say what the table knows; the entries know what is known at entries, and the
+--                              points behind each point know what it leaves
 use Rattle.std.specs.Prelude.{◌≡◌, ◌≢◌, ℕ, ◌+◌, ◌*◌, ◌<◌, ◌≤◌, ◌==◌, ℤ, Bool, false, List, length, All, Option, None, Some, slice_get, slice_index_or, sum_by, if◌then◌else◌}
 use Rattle.flow_points.specs.Flows.{plus}
 use Rattle.flow_points.specs.Walks.{point}
+use Rattle.flow_points.specs.PointLists.{FlowPoints}
 use Rattle.flow_points.specs.declared.code_points.Point.{Point}
 use Rattle.flow_points.specs.declared.code_points.CodePoint.{CodePoint}
 use Rattle.frame_offsets.specs.Frames.{FrameWalk, goes_on, offsets_after, source_of}
@@ -85,33 +87,35 @@ pub record AreJustified (points : List CodePoint) (table : List Known) : Type 0 
   pub each : (i : ℕ) (c : CodePoint) (r : ℕ) → slice_get points i ≡ Some c → r < 32
       → IsJustified points c r (known_at table i r)
 
-abbrev pub passed_from : List CodePoint → List Known → ℕ → CodePoint → ℕ → Known
-passed_from points table i c r = passed (source_of c.instr c.flow r) (known_at table i)
+abbrev pub passed_from : List Known → ℕ → CodePoint → ℕ → Known
+passed_from table i c r = passed (source_of c.instr c.flow r) (known_at table i)
 
 abbrev pub Knows : Known → Known → Type 0
 Knows known other = joined known other ≡ known
 
-abbrev pub IsPassed : List CodePoint → List Known → ℕ → ℕ → Type 0
-IsPassed points table i j =
-    (c : CodePoint) → slice_get points i ≡ Some c → (r : ℕ) → r < 32
-    → Knows (known_at table j r) (passed_from points table i c r)
+abbrev pub at_row : List Known → ℕ → Known
+at_row row r = slice_index_or row r Unmet
 
-abbrev pub IsOpened : List Known → ℕ → Type 0
-IsOpened table i = (r : ℕ) → r < 32 → Knows (known_at table i r) (known_at_entry r)
-
--- what is passed to the point at an address of point i's procedure
-abbrev pub IsPassedOn : List CodePoint → List Known → ℕ → Point → Type 0
-IsPassedOn points table i to =
-    (j : ℕ) (d : CodePoint) → slice_get points j ≡ Some d → d.point ≡ to → IsPassed points table i j
-
-pub record IsClosedAt (points : List CodePoint) (table : List Known) (i : ℕ) (c : CodePoint) : Type 0 where
-  pub opened : c.point ≡ point c.point.proc_entry c.point.proc_entry → IsOpened table i
-  pub passed_on : All (IsPassedOn points table i) (goes_on c.point.proc_entry c.flow)
-
-abbrev pub AreClosedBelow : List CodePoint → List Known → ℕ → Type 0
-AreClosedBelow points table n = (i : ℕ) (c : CodePoint) → i < n → slice_get points i ≡ Some c → IsClosedAt points table i c
-
-pub record Changes (points : List CodePoint) (old new : List Known) (rose : Bool) : Type 0 where
-  pub justified : AreJustified points new
+pub record IsRowJoined (old new : List Known) (i : ℕ) (row : ℕ → Known) (n : ℕ) (rose : Bool) : Type 0 where
+  pub size : length new ≡ length old
+  pub here : (r : ℕ) → r < n → known_at new i r ≡ joined (known_at old i r) (row r)
+  pub rest : (j r : ℕ) → r < 32 → (j ≡ i → n ≤ r) → known_at new j r ≡ known_at old j r
   pub fell : weight_of new + (if rose then 1 else 0) ≤ weight_of old
   pub still : rose ≡ false → new ≡ old
+
+abbrev pub KnowsRow : List CodePoint → List Known → Point → (ℕ → Known) → Type 0
+KnowsRow points table to row =
+    (j : ℕ) (d : CodePoint) → slice_get points j ≡ Some d → d.point ≡ to → (r : ℕ) → r < 32
+    → Knows (known_at table j r) (row r)
+
+abbrev pub IsOpenedAt : List CodePoint → List Known → ℕ → Type 0
+IsOpenedAt points table p = KnowsRow points table (point p p) known_at_entry
+
+abbrev pub PassesOn : List CodePoint → List Known → ℕ → CodePoint → Type 0
+PassesOn points table i c =
+    All (λ to. KnowsRow points table to (passed_from table i c)) (goes_on c.point.proc_entry c.flow)
+
+pub record AreSettled (points : FlowPoints) (table : List Known) : Type 0 where
+  pub justified : AreJustified points.points table
+  pub opened : All (IsOpenedAt points.points table) points.procedures
+  pub passed_on : (i : ℕ) (c : CodePoint) → slice_get points.points i ≡ Some c → PassesOn points.points table i c

@@ -20,6 +20,6 @@ pub fn offsets(alloc: Global, points: &Points) -> Result<Offsets, Memory>
     let Ok(mut table) = vec![in alloc; Known::Unmet; REGISTERS * points.count() as usize] else {
         return Err(Memory);
     };
-    settle(&mut table, points);
+    settle(alloc, &mut table, points)?;
     Ok(Offsets::of_table(Items::from_vec(table)))
 }

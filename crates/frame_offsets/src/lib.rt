@@ -3,7 +3,7 @@
 //!
 //! [`offsets`] gives for each point and register the offset that it has at the end of every walk of the
 //! procedure to the point, and none where the walks differ or one ends with none. Only ADDI moves an
-//! offset, and a call keeps that of sp alone. What is done with offsets is left to others.
+//! offset, and a call keeps those of sp and of s0 to s11 alone. What is done with offsets is left to others.
 //!
 //! ```text
 //! let offsets = offsets(alloc, &points)?;
@@ -14,12 +14,12 @@
 mod compute;
 mod frame;
 mod known;
+mod rows;
 mod settle;
 mod sources;
 mod table;
 #[cfg(test)]
 mod tests;
-mod visit;
 
 pub use compute::offsets;
 pub use frame::Offsets;

@@ -2,12 +2,10 @@
 
 ghost use Rattle.std.specs.Prelude.{◌≡◌, ◌<◌, IfSome};
 ghost use Rattle.rv_decode.specs.Instructions.{IsWellFormed};
-ghost use Rattle.frame_offsets.specs.Frames.{source_in, source_of, written_by};
+ghost use Rattle.frame_offsets.specs.Frames.{is_kept_by_calls, source_in, source_of, written_by};
 
 use flow_points::Flow;
 use rv_decode::{ImmOp, Instr};
-
-const SP: u8 = 2;
 
 const A0: u8 = 10;
 
@@ -21,10 +19,17 @@ pub fn source_of(instr: &Instr, flow: &Flow, register: u8) -> Option<(u8, i32)>
 {
     match *flow {
         _ if register == 0 => None,
-        Flow::Call { .. } if register == SP => Some((SP, 0)),
+        Flow::Call { .. } if is_kept_by_calls(register) => Some((register, 0)),
         Flow::Call { .. } => None,
         _ => source_in(instr, register),
     }
+}
+
+// Whether a register is sp or one of s0 to s11, which a callee leaves as they were.
+fn is_kept_by_calls(register: u8) -> bool
+    ensures { result ≡ is_kept_by_calls register }
+{
+    matches!(register, 2 | 8 | 9) || (18 <= register && register <= 27)
 }
 
 fn source_in(instr: &Instr, register: u8) -> Option<(u8, i32)>

@@ -1,16 +1,31 @@
 //! The table of what is known: for each point in turn, of each of the 32 registers.
 
 ghost use Rattle.std.specs.Prelude.{◌≡◌, ◌+◌, ◌*◌, ◌<◌, ◌≤◌, ◌||◌, false, length, slice_set, slice_index_or, IfSome, if◌then◌else◌};
-ghost use Rattle.frame_offsets.specs.Tables.{Knows, known_at_entry, joined, lost, known_moved, passed, known_at, weight_of};
+ghost use Rattle.frame_offsets.specs.Tables.{at_row, IsRowJoined, Knows, joined, lost, known_moved, passed, known_at, weight_of};
 ghost use Rattle.frame_offsets.specs.declared.known.Known.TheVariants.{Unmet};
 
 use crate::known::Known;
 
 pub const REGISTERS: usize = 32;
 
-/// Joins what is known at a place of the table with what else is known there, and says whether it
-/// changed.
-pub fn raise(table: &mut [Known], at: usize, other: Known) -> bool
+/// What is known of each register at one point.
+pub type Row = [Known; REGISTERS];
+
+/// Joins what is known at the point of this number with a row, and says whether something changed.
+pub fn raise_row(table: &mut [Known], i: usize, row: &Row) -> bool
+    requires { 32 * i + 32 ≤ length table.old }
+    ensures { IsRowJoined table.old table.new i (at_row row.now) 32 result }
+{
+    let mut rose = false;
+    for register in 0..REGISTERS {
+        let risen = raise(table, REGISTERS * i + register, row[register]);
+        rose = either(risen, rose);
+    }
+    rose
+}
+
+// Joins what is known at a place of the table with what else is known there, and says whether it changed.
+fn raise(table: &mut [Known], at: usize, other: Known) -> bool
     requires { at < length table.old }
     ensures after { table.new ≡ slice_set table.old at (joined (slice_index_or table.old at Unmet) other) }
     ensures fell { weight_of table.new + (if result then 1 else 0) ≤ weight_of table.old }
@@ -34,18 +49,7 @@ pub fn passed(table: &[Known], from: usize, source: Option<(u8, i32)>) -> Known
     }
 }
 
-/// What is known of a register at an entry.
-pub fn known_at_entry(register: u8) -> Known
-    ensures { result ≡ known_at_entry register }
-{
-    if register == 2 {
-        Known::Offset(0)
-    } else {
-        Known::Nothing
-    }
-}
-
-pub fn either(a: bool, b: bool) -> bool
+fn either(a: bool, b: bool) -> bool
     ensures { result ≡ (a || b) }
 {
     a || b

@@ -13,7 +13,11 @@ const RA: u8 = 1;
 
 const SP: u8 = 2;
 
+const T0: u8 = 5;
+
 const S0: u8 = 8;
+
+const S11: u8 = 27;
 
 const EBREAK: u32 = 0x00100073;
 
@@ -114,13 +118,17 @@ fn offsets_of_all_walks(rt: HostRuntime) -> Result<(), Fail> {
                 ((0x10078, 0x10088), SP, None),
             ],
         ),
-        // addi s0,sp,8; jal ra,8; ebreak; jalr zero,0(ra)
+        // addi s0,sp,8; addi s11,sp,-8; addi t0,sp,16; jal ra,8; ebreak; jalr zero,0(ra)
         (
-            &[0x00810413, 0x008000ef, EBREAK, 0x00008067],
             &[
-                ((0x10078, 0x1007c), S0, Some(8)),
-                ((0x10078, 0x10080), S0, None),
-                ((0x10078, 0x10080), SP, Some(0)),
+                0x00810413, 0xff810d93, 0x01010293, 0x008000ef, EBREAK, 0x00008067,
+            ],
+            &[
+                ((0x10078, 0x10084), T0, Some(16)),
+                ((0x10078, 0x10088), T0, None),
+                ((0x10078, 0x10088), S0, Some(8)),
+                ((0x10078, 0x10088), S11, Some(-8)),
+                ((0x10078, 0x10088), SP, Some(0)),
             ],
         ),
     ];

@@ -25,3 +25,4 @@ mod Placing
 mod Starting
 mod Bounding
 mod NoReturns
+pub mod Laws

@@ -54,12 +54,9 @@ fn each_image(alloc: Global, assign: &Assign, rows: &[Row<17>]) -> Result<Items<
     Ok(images)
 }
 
-/// What assignments, one after the other, make of a row.
-pub(crate) fn images(
-    alloc: Global,
-    assigns: &[Assign],
-    row: &Row<17>,
-) -> Result<Items<Row<17>>, Memory>
+/// Rows that span what assignments, one after the other, make of a row: one, and where it has a word at position 16 one more
+/// for each unknown assignment.
+pub fn images(alloc: Global, assigns: &[Assign], row: &Row<17>) -> Result<Items<Row<17>>, Memory>
     requires { All (λ a. position_of a < 16) assigns.now }
     ensures { IfOk result (λ rows. Spans rows (Makes (IsMatrixOf assigns.now) row.now)) }
 {

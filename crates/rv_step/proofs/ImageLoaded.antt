@@ -6,7 +6,7 @@ use Rattle.std.proofs.lemmas.Grind.{common_steps, take_at_read}
 use Rattle.std.proofs.lemmas.List.{get_or_past}
 use Rattle.std.proofs.lemmas.List.Folds.{find-append}
 use Rattle.elf_image.specs.Segments.{IsLoadable, holds, byte_in, segment_with}
-use Rattle.elf_image.specs.Fetches.{loaded}
+use Rattle.elf_image.specs.Images.{loaded}
 use Rattle.elf_image.specs.declared.image.Image.{Image}
 use Rattle.elf_image.specs.declared.segment.Segment.{Segment}
 use Rattle.rv_step.specs.Loads.{copied, loaded_from}

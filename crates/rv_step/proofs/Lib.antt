@@ -4,3 +4,4 @@ pub mod LowWords
 pub mod OneStep
 pub mod HartsKept
 pub mod ResultsAreWords
+pub mod RangesCovered

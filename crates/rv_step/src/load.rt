@@ -1,7 +1,7 @@
 //! Where a run starts: an image in memory.
 
 ghost use Rattle.std.specs.Prelude.{◌≡◌, ◌<◌, ◌≤◌, ◌+◌, ◌^◌, ℕ, All, length, slice_index, filter, map, slice_set, IfOk, OnOk};
-ghost use Rattle.elf_image.specs.Fetches.{loaded};
+ghost use Rattle.elf_image.specs.Images.{loaded};
 ghost use Rattle.elf_image.specs.Ranges.{executable_ranges, range_of};
 ghost use Rattle.rv_step.specs.Loads.{copied};
 ghost use Rattle.rv_step.specs.Machines.{hart_of, made_of};

@@ -121,7 +121,14 @@ const TURNS: [(u32, u64, u64, u64); 17] = [
 
 /// The image of a file with two instruction words.
 fn image_of(alloc: Global, first: u32, second: u32) -> Result<Image, Fail> {
-    let mut bytes = Vec::from_slice(alloc, &HEADERS)?;
+    image_with(alloc, 0, first, second)
+}
+
+/// The same with these flags.
+fn image_with(alloc: Global, flags: u8, first: u32, second: u32) -> Result<Image, Fail> {
+    let mut headers = HEADERS;
+    headers[48] = flags;
+    let mut bytes = Vec::from_slice(alloc, &headers)?;
     bytes.extend_from_slice(&first.to_le_bytes())?;
     bytes.extend_from_slice(&second.to_le_bytes())?;
     Ok(read_image(alloc, &bytes)?)
@@ -234,11 +241,10 @@ fn steps_and_stops(rt: HostRuntime) -> Result<(), Fail> {
 #[test]
 fn both_lengths(rt: HostRuntime) -> Result<(), Fail> {
     // c.li a0,5; addi a0,a0,1; c.ebreak
-    let image = image_of(rt.alloc(), 0x0513_4515, 0x9002_0015)?;
+    let image = image_with(rt.alloc(), 1, 0x0513_4515, 0x9002_0015)?;
     let mut machine = Machine::start(rt.alloc(), &image, [0; 32])
         .ok()
         .ok_or("no memory")?;
-    machine.unit = 2;
     let first = made(machine.step())?;
     assert_eq!(rt;
         (first.word, first.length, first.next),

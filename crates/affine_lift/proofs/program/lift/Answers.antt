@@ -1,11 +1,12 @@
 use Rattle.std.proofs.Common.{◌∙◌, ◌≤◌, length, map, ap, arith}
+use Rattle.flow_points.specs.Walks.{most_points}
 use Rattle.affine_lift.specs.Lifting.{number_of, offset_from, positions_where, is_tracked_register, proc_of, edges_along}
 use Rattle.affine_lift.proofs.Formed.{lifted_formed}
 use Rattle.affine_lift.proofs.Nodes.{few_procedures, table_tells}
 use Rattle.affine_lift.proofs.program.lift.Goals as goal
 use Rattle.affine_lift.proofs.program.lift.Goals.{After-procedures}
 
-few : (c : After-procedures) → length c.procedures.result.now ≤ 4096
+few : (c : After-procedures) → length c.procedures.result.now ≤ most_points
 few c =
     let same = ap length c.procedures.ensures in
     let short = few_procedures c.args.points.now c.known.ensures in

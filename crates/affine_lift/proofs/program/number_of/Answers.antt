@@ -1,10 +1,11 @@
 use Rattle.std.proofs.Common.{◌<◌, ◌≤◌, length, ap, arith}
+use Rattle.flow_points.specs.Walks.{most_points}
 use Rattle.frame_offsets.proofs.Walking.{if_some}
 use Rattle.affine_lift.proofs.Nodes.{few_procedures}
 use Rattle.affine_lift.proofs.program.number_of.Goals as goal
 use Rattle.affine_lift.proofs.program.number_of.Goals.{In-Some}
 
-small : (c : In-Some) → c.in-Some.number ≤ 4096
+small : (c : In-Some) → c.in-Some.number ≤ most_points
 small c =
     let within : c.in-Some.number < length c.procedures.result.now = if_some c.place_in.result c.in-Some.number _ c.in-Some.is c.place_in.ensures.within in
     let same = ap length c.procedures.ensures in

@@ -4,6 +4,7 @@ use Rattle.row_modules.proofs.Laws.{constant_is_in}
 use Rattle.lead_basis.proofs.Laws.{turned}
 use Rattle.affine_prog.specs.Programs.{owner_of, visible_in}
 use Rattle.affine_prog.specs.Spans.{IsStateAt}
+use Rattle.analyser_core.proofs.NodeStates.{inner_at, states_known}
 use Rattle.analyser_core.proofs.PointsTold.{told_more, one_longer, point_told, seen_there}
 use Rattle.analyser_core.proofs.RelationsTold.{tells, are_rows}
 use Rattle.analyser_core.proofs.tell.told.Goals as goal
@@ -16,10 +17,16 @@ loop-u-preserved c =
     let program = c.args.program.now in
     let u = c.loop-u.u in
     let names = c.args.tracked.now.names in
-    let states = c.at-states.result.now in
+    let states = c.states_at-states.result.now in
+    let blocks = c.args.blocks.now in
+    let formed = c.requires.formed in
+    let inner = c.requires.inner in
     let nodes = c.requires.lifted.nodes in
     let below : u < program.nodes = omega (arith, nodes, c.loop-u-test.true, c.count-u-end.ensures.count) in
-    let exact : SameModule 17 (Contains states) (IsStateAt program u) = rw c.at-states.ensures (c.requires.reached.exact u below) in
+    let exact : SameModule 17 (Contains states) (IsStateAt program u) =
+    rw c.states_at-states.ensures
+    (states_known program formed blocks c.requires.blocks c.args.reached.now c.args.inner.now c.requires.reached u below
+    (λ none. inner.exact u below (inner_at program formed blocks c.requires.blocks u below none))) in
     let same = turned 17 (Contains states) (IsStateAt program u) exact in
     let relates = rw c.visible_at.ensures at c.in_ok-state.ensures in
     let told = tells program u states c.requires.formed c.relations_annihilate_states.ensures c.paths_keep_states.ensures.states same c.in_ok-state.state

@@ -1,6 +1,6 @@
 use Rattle.std.proofs.Common.{◌≡◌, nat_eq, rules, sym, subst}
 use Rattle.std.specs.List.{dedup}
-use Rattle.elf_image.specs.Images.{code_word}
+use Rattle.flow_points.specs.Flows.{fetches_of}
 use Rattle.flow_points.specs.Causes.{codes_of}
 use Rattle.flow_points.specs.PointLists.{ArePoints, FlowPoints, entries_of}
 use Rattle.flow_points.proofs.Recovered.{are_points}
@@ -11,7 +11,7 @@ new-requires c =
     let points : c.from_vec-points.result ≡ codes_of c.sort.new.sites.entries = search rules in
     let procedures : c.from_vec-procedures.result ≡ dedup nat_eq (entries_of c.from_vec-points.result) = search rules in
     record {
-      fetch = code_word c.args.image.now;
+      fetches = fetches_of c.args.image.now;
       are = are_points _ _ _ c.requires.all c.requires.good _ c.in_ok-sort.ensures.moved _ _ c.in_ok-sort.ensures.sorted
           c.in_ok-sort.ensures.distinct points procedures;
     }
@@ -20,6 +20,6 @@ pub returns-clause-points : goal.returns-clause-points
 returns-clause-points c =
     let points : c.from_vec-points.result ≡ codes_of c.sort.new.sites.entries = search rules in
     let procedures : c.from_vec-procedures.result ≡ dedup nat_eq (entries_of c.from_vec-points.result) = search rules in
-    subst (λ (ps : FlowPoints). ArePoints (code_word c.args.image.now) c.args.image.now.entry ps) (sym c.new.ensures)
+    subst (λ (ps : FlowPoints). ArePoints (fetches_of c.args.image.now) c.args.image.now.entry ps) (sym c.new.ensures)
     (are_points _ _ _ c.requires.all c.requires.good _ c.in_ok-sort.ensures.moved _ _ c.in_ok-sort.ensures.sorted
     c.in_ok-sort.ensures.distinct points procedures)

@@ -4,7 +4,7 @@ use Rattle.std.proofs.lemmas.Map.Views.{Contains-keys_from_lookup}
 use Rattle.indexmap.specs.IndexMap.{insert_entry}
 use Rattle.indexmap.proofs.CallerLemmas.{insert_entry-new}
 use Rattle.flow_points.specs.Sites.{too_many}
-use Rattle.flow_points.specs.Walks.{point}
+use Rattle.flow_points.specs.Walks.{most_points, point}
 use Rattle.flow_points.specs.Causes.{same_point}
 use Rattle.flow_points.proofs.SamePoint.{same}
 use Rattle.flow_points.proofs.Lists.{no_value}
@@ -19,12 +19,12 @@ returns-then-contains_key-clause-there c =
 pub returns-then-len-eq-MOST_POINTS-clause-stop : goal.returns-then-len-eq-MOST_POINTS-clause-stop
 returns-then-len-eq-MOST_POINTS-clause-stop c =
     let absent : is_some (lookup (same_point (point c.args.proc_entry c.args.address)) c.args.sites.now.entries) ≡ false = cc in
-    let full : length c.args.sites.now.entries ≡ 4096 = search rules in
+    let full : length c.args.sites.now.entries ≡ most_points = search rules in
     too_many (more_points _ _ _ (point c.args.proc_entry c.args.address) c.requires.sites c.len.ensures.unique absent full c.requires.reached) refl
 
 pub returns-in-Ok-clause-adds : goal.returns-in-Ok-clause-adds
 returns-in-Ok-clause-adds c =
-    let room : length c.args.sites.now.entries ≡ 4096 → ⊥ = search rules in
+    let room : length c.args.sites.now.entries ≡ most_points → ⊥ = search rules in
     let put : c.insert.new.self.entries ≡ insert_entry same_point c.args.sites.now.entries (point c.args.proc_entry c.args.address) c.site_at.result = c.in-Ok.ensures.entries in
     let absent : is_some (lookup (same_point (point c.args.proc_entry c.args.address)) c.args.sites.now.entries) ≡ false = cc in
     one_more _ _ _ _ (point c.args.proc_entry c.args.address) c.site_at.result c.requires.sites room c.requires.reached c.site_at.ensures

@@ -1,12 +1,13 @@
-use Rattle.std.proofs.Common.{refl, arith, rules}
+use Rattle.std.proofs.Common.{refl, arith}
 use Rattle.std.proofs.lemmas.Grind.{common_steps}
 use Rattle.rv_step.proofs.ImageLoaded.{loaded_is_byte}
+use Rattle.rv_step.proofs.RangesCovered.{fetched_below}
 use Rattle.rv_step.proofs.machine.Machine.start.Goals as goal
 
 pub returns-clause-starts : goal.returns-clause-starts
 returns-clause-starts c = record {
   hart = record {
-    pc = search rules;
+    pc = fetched_below c.args.image.now c.args.image.now.entry c.known.ensures.entry_code;
     registers = c.zero_first.ensures.count;
     words = c.zero_first.ensures.words;
     zero_is = c.zero_first.ensures.zero;
