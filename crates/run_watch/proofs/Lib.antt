@@ -1,0 +1,3 @@
+mod Nearby
+mod Shown
+mod Keeping

@@ -1,0 +1,4 @@
+pub mod Slots
+pub mod Activations
+pub mod Moments
+pub mod Judges

@@ -1,0 +1,29 @@
+//! Watches over runs of a machine: what they see of a moment, and what they find.
+//!
+//! A watch is shown the context of a moment and the record of the step made there, one after the other. Each of the four
+//! kinds finds the first step that breaks what it watches: a report's rows, live slots, returns, code; and keeps that
+//! finding. What the run does, and how its contexts come, is left to others.
+//!
+//! ```text
+//! let mut watch = ReturnWatch::new();
+//! watch.see(&ctx, &rec); // ctx is the moment before the step that rec tells
+//! watch.found() // None, or the step, its address, and where it returned to
+//! ```
+#![tactic(auto)]
+
+mod activation;
+mod code_bytes;
+mod context;
+mod details;
+mod live_slots;
+mod places;
+mod shows;
+mod watch;
+mod watches;
+
+pub use activation::Activation;
+pub use code_bytes::CodeBytes;
+pub use context::{Found, LiveSlots, WatchCtx};
+pub use places::{CodeAt, SlotAt};
+pub use watch::Watch;
+pub use watches::{CodeWatch, RelationWatch, ReturnWatch, StoreWatch};

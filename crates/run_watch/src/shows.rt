@@ -1,0 +1,49 @@
+//! Watches that see a run.
+
+ghost use Rattle.std.specs.Prelude.{◌≡◌, IfOk};
+ghost use Rattle.std.specs.List.{AllZip};
+ghost use Rattle.run_watch.specs.Moments.{moment_of};
+ghost use Rattle.run_watch.specs.Judges.{IsJudged};
+
+use crate::context::{Found, WatchCtx};
+use crate::watch::Watch;
+use rv_step::StepRec;
+use sqlite_items::Items;
+use std::alloc::{AllocError, Global};
+
+/// Shows all watches, in order, a record with its moment.
+pub(crate) fn show(watches: &mut [Box<dyn Watch>], ctx: &WatchCtx, rec: &StepRec)
+    ensures { AllZip (λ old new. IsJudged (kind_of old) (state old) (kind_of new) (state new) (moment_of ctx.now) rec.now) watches.old watches.new }
+{
+    for watch in watches.iter_mut() {
+        show_one(watch, ctx, rec);
+    }
+}
+
+// Shows a watch a record with its moment.
+fn show_one(watch: &mut Box<dyn Watch>, ctx: &WatchCtx, rec: &StepRec)
+    ensures { IsJudged (kind_of watch.old) (state watch.old) (kind_of watch.new) (state watch.new) (moment_of ctx.now) rec.now }
+{
+    watch.see(ctx, rec);
+}
+
+/// What each watch found, in order.
+pub(crate) fn findings(
+    alloc: Global,
+    watches: &[Box<dyn Watch>],
+) -> Result<Items<Option<Found>>, AllocError>
+    ensures { IfOk result (λ found. AllZip (λ watch f. f ≡ state watch) watches.now found) }
+{
+    let mut found = Items::new(alloc);
+    for watch in watches {
+        found.push(found_of(watch))?;
+    }
+    Ok(found)
+}
+
+// What a watch found.
+fn found_of(watch: &Box<dyn Watch>) -> Option<Found>
+    ensures { result ≡ state watch.now }
+{
+    watch.found()
+}
