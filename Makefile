@@ -7,7 +7,7 @@ TRACK = sp,ra,s0,a0$(if $(filter $(EXAMPLE),$(FILE)),$(COMMA)$(SLOTS))
 COMMA = ,
 export FILE TRACK
 
-.PHONY: help demo analyse cert list build test
+.PHONY: help demo analyse cert list build test bench
 
 help:
 	@echo 'make demo                       the report of $(EXAMPLE)    under a minute'
@@ -15,6 +15,7 @@ help:
 	@echo 'make cert FILE=F TRACK=LIST     which registers its procedures give back        under a minute for small files'
 	@echo 'make list FILE=F                the code of F that can be reached              under a minute for small files'
 	@echo 'make build                      proves and builds the program                  half an hour or more where nothing is kept'
+	@echo 'make bench                      times of the built program on files of growing size   some seconds'
 	@echo 'make test                       the whole test, rt ci                          an hour or more where nothing is kept'
 	@echo
 	@echo 'demo, analyse, cert and list build anew and prove nothing; rt ci proves the same sources.'
@@ -47,6 +48,10 @@ list:
 build:
 	@cd crates/analyser_main && rt run -- list ../../examples/one_register.elf
 	@echo 'make: built, proved: $(PROGRAM)'
+
+bench:
+	@test -x $(PROGRAM) || { echo 'make: make build comes first' >&2; exit 1; }
+	@python3 bench/bench.py $(PROGRAM)
 
 test:
 	rt ci

@@ -1,0 +1,212 @@
+#!/usr/bin/env python3
+"""Files of growing size, and what the analyser takes for each: points, names, seconds, peak memory.
+
+    bench.py PROGRAM [NAME ..]     all rows of TABLE, or those named
+
+PROGRAM is the optimised program, which `make build` makes. Each file is made here from its number. What is measured is the
+processor's time for the whole order `analyse`, reading and writing included, and the process's peak memory; below about 20
+megabytes that is the memory of this script, which starts it. Beside each number stands its ratio to the one before, so
+that the growth is seen: 2 is linear in the size, 4 quadratic.
+"""
+import os
+import struct
+import subprocess
+import sys
+import tempfile
+
+ZERO, RA, SP, GP = 0, 1, 2, 3
+TEMPORARIES = [5, 6, 7, 28, 29, 30, 31]
+ARGUMENTS = list(range(10, 18))
+NAMES = {1: "ra", 2: "sp", 3: "gp", 5: "t0", 6: "t1", 7: "t2", 28: "t3", 29: "t4", 30: "t5", 31: "t6"}
+NAMES |= {r: f"a{r - 10}" for r in ARGUMENTS}
+EIGHT = ARGUMENTS
+SIXTEEN = ARGUMENTS + TEMPORARIES + [GP]
+ENTRY = 0x10078
+EBREAK = 0x00100073
+RETURN = 0x00008067
+
+
+def addi(rd, rs, imm):
+    return (imm & 0xFFF) << 20 | rs << 15 | rd << 7 | 0x13
+
+
+def add(rd, rs, rt):
+    return rt << 20 | rs << 15 | rd << 7 | 0x33
+
+
+def sd(rs, imm, base):
+    imm &= 0xFFF
+    return (imm >> 5) << 25 | rs << 20 | base << 15 | 3 << 12 | (imm & 31) << 7 | 0x23
+
+
+def ld(rd, imm, base):
+    return (imm & 0xFFF) << 20 | base << 15 | 3 << 12 | rd << 7 | 0x03
+
+
+def beq(rs, rt, off):
+    b = off & 0x1FFF
+    return (b >> 12) << 31 | (b >> 5 & 63) << 25 | rt << 20 | rs << 15 | (b >> 1 & 15) << 8 | (b >> 11 & 1) << 7 | 0x63
+
+
+def jal(rd, off):
+    b = off & 0x1FFFFF
+    return (b >> 20) << 31 | (b >> 1 & 0x3FF) << 21 | (b >> 11 & 1) << 20 | (b >> 12 & 255) << 12 | rd << 7 | 0x6F
+
+
+def tracked(registers):
+    return ",".join(NAMES[r] for r in registers)
+
+
+def mixed(registers):
+    """A loop in which each register may get the next one added: it mixes all of them."""
+    words = []
+    for i, r in enumerate(registers):
+        words += [beq(10, ZERO, 8), add(r, r, registers[(i + 1) % len(registers)])]
+    return words + [beq(10, ZERO, -4 * len(words))]
+
+
+# Each of these makes, from a number, the words of a file and the list of names.
+
+
+def backwards(n):
+    """Eight registers mixed in a loop, and then n jumps, each to the word before. Each jump is a head."""
+    return mixed(EIGHT) + [jal(ZERO, 4 * (n + 1)), EBREAK] + [jal(ZERO, -4)] * n, tracked(EIGHT)
+
+
+def plain(n):
+    """Sixteen registers mixed in a loop, and then n points that assign nothing that is tracked: states alone go on."""
+    return mixed(SIXTEEN) + [addi(ZERO, ZERO, 0)] * n + [EBREAK], tracked(SIXTEEN)
+
+
+def returning(n):
+    """The same in a procedure that returns, so that maps are solved for it and not states alone."""
+    return [jal(RA, 8), EBREAK] + mixed(SIXTEEN) + [addi(ZERO, ZERO, 0)] * n + [RETURN], tracked(SIXTEEN)
+
+
+def crossing(n):
+    """Eight registers mixed by n branches, one after the other, in a procedure that returns: maps of 65 rows at each."""
+    words = [jal(RA, 8), EBREAK] + mixed(EIGHT)
+    for i in range(n):
+        words += [beq(10, ZERO, 8), add(EIGHT[i % 8], EIGHT[i % 8], EIGHT[(i + 3) % 8])]
+    return words + [RETURN], tracked(EIGHT)
+
+
+def counted(n):
+    """Eight registers, and n times one of them gets 1 more: straight code, whose relations are solved at each point."""
+    return [addi(EIGHT[i % 8], EIGHT[i % 8], 1) for i in range(n)] + [EBREAK], tracked(EIGHT)
+
+
+def nested(n):
+    """n procedures, each of which calls the next one twice: the ways through them double with each."""
+    words = [addi(SP, ZERO, 2047), jal(RA, 8), EBREAK]
+    for i in range(n):
+        slot = [addi(SP, SP, -16), sd(RA, 8, SP)]
+        calls = [addi(10, 10, 1), jal(RA, 0), add(11, 11, 10), jal(RA, 0)]
+        rest = [ld(RA, 8, SP), addi(SP, SP, 16), RETURN]
+        if i + 1 < n:
+            calls[1], calls[3] = jal(RA, 4 * 6), jal(RA, 4 * 4)
+        else:
+            calls[1] = calls[3] = add(11, 11, 11)
+        words += slot + calls + rest
+    return words, tracked([SP, RA, 10, 11])
+
+
+def cycle(n):
+    """n procedures that may each call the next, and the last one the first: recursion through all of them."""
+    words = [jal(RA, 8), EBREAK]
+    for i in range(n):
+        call = len(words) + 3
+        callee = 2 + 7 * ((i + 1) % n)
+        words += [addi(SP, SP, -16), beq(12, ZERO, 12), addi(10, 10, 1), jal(RA, 4 * (callee - call))]
+        words += [add(11, 11, 10), addi(SP, SP, 16), RETURN]
+    return words, tracked([SP, RA, 10, 11])
+
+
+def branches(n):
+    """n branches one after the other, each over one sum: paths part and meet again n times."""
+    words = []
+    for i in range(n):
+        words += [beq(10, ZERO, 8), add(EIGHT[i % 8], EIGHT[i % 8], EIGHT[(i + 3) % 8])]
+    return words + [EBREAK], tracked(EIGHT)
+
+
+def loops(n):
+    """n loops, each in the next one, with a sum in each: a row may go round n ways."""
+    words = [addi(EIGHT[i % 8], EIGHT[i % 8], i % 5) for i in range(n)]
+    for i in range(n):
+        words += [add(EIGHT[i % 8], EIGHT[i % 8], EIGHT[(i + 1) % 8])]
+        words += [beq(10, ZERO, -4 * (2 * i + 2))]
+    return words + [EBREAK], tracked(EIGHT)
+
+
+def frames(n):
+    """n loads and stores on sixteen slots of one frame, between two registers that aren't tracked by name."""
+    words = [addi(SP, SP, -128)]
+    for i in range(n // 2):
+        words += [ld(10, 8 * (i % 16), SP), sd(10, 8 * (5 * i % 16), SP)]
+    return words + [EBREAK], ",".join(f"{ENTRY:#x}:-{8 * (k + 1)}" for k in range(16))
+
+
+# What it is, its sizes, and what it stresses.
+TABLE = {
+    "backwards": (backwards, [240, 480, 960, 1920, 3900], "a head for each point"),
+    "plain": (plain, [1000, 2000, 4000, 8000, 16000], "straight code that assigns no name, behind a loop"),
+    "returning": (returning, [1000, 2000, 4000, 8000, 16000], "the same in a procedure that returns: 257 rows of maps in the loop"),
+    "crossing": (crossing, [120, 240, 480, 960, 1920], "a procedure of n branches: 65 rows of maps at each"),
+    "counted": (counted, [1000, 2000, 4000, 8000, 16000], "straight code whose relations change at each point"),
+    "nested": (nested, [25, 50, 100, 200, 400], "calls nested n deep, each procedure calling the next one twice"),
+    "cycle": (cycle, [25, 50, 100, 200, 400], "n procedures in one cycle of calls"),
+    "branches": (branches, [120, 240, 480, 960, 1920], "n branches one after the other"),
+    "loops": (loops, [30, 60, 120, 240, 480], "a nest of n loops"),
+    "frames": (frames, [125, 250, 500, 1000, 2000], "n loads and stores on sixteen slots"),
+}
+
+
+def elf(words):
+    """A file with one segment, which holds its headers and the words."""
+    size = 120 + 4 * len(words)
+    head = b"\x7fELF\x02\x01\x01" + bytes(9) + struct.pack("<HHIQQQIHHHHHH", 2, 243, 1, ENTRY, 64, 0, 0, 64, 56, 1, 0, 0, 0)
+    segment = struct.pack("<IIQQQQQQ", 1, 5, 0, 0x10000, 0x10000, size, size, 0x1000)
+    return head + segment + struct.pack(f"<{len(words)}I", *words)
+
+
+def measured(program, file, names):
+    """Seconds of the processor, peak memory in megabytes, the status, and the lines."""
+    with tempfile.TemporaryFile() as out:
+        child = subprocess.Popen([program, "analyse", file, "--track", names], stdout=out)
+        _, status, usage = os.wait4(child.pid, 0)
+        seconds = usage.ru_utime + usage.ru_stime
+        child.returncode = os.waitstatus_to_exitcode(status)
+        out.seek(0)
+        lines = out.read().decode().splitlines()
+    return seconds, usage.ru_maxrss / 1024, child.returncode, lines
+
+
+def main():
+    if len(sys.argv) < 2:
+        sys.exit(__doc__)
+    program = os.path.abspath(sys.argv[1])
+    wanted = sys.argv[2:] or list(TABLE)
+    with tempfile.TemporaryDirectory() as folder:
+        file = os.path.join(folder, "file.elf")
+        for name in wanted:
+            make, sizes, stresses = TABLE[name]
+            print(f"\n{name}: {stresses}")
+            print(f"{'size':>8} {'points':>8} {'names':>6} {'seconds':>9} {'ratio':>6} {'megabytes':>10} {'ratio':>6}")
+            before = None
+            for size in sizes:
+                words, names = make(size)
+                with open(file, "wb") as out:
+                    out.write(elf(words))
+                seconds, memory, status, lines = measured(program, file, names)
+                if status != 0:
+                    print(f"{size:>8} {lines[0] if lines else ''} (status {status})")
+                    continue
+                points = sum(line.startswith("at ") for line in lines)
+                grown = (f"{seconds / before[0]:6.1f}", f"{memory / before[1]:6.1f}") if before else ("", "")
+                print(f"{size:>8} {points:>8} {names.count(',') + 1:>6} {seconds:>9.3f} {grown[0]:>6} {memory:>10.1f} {grown[1]:>6}")
+                before = (seconds, memory)
+
+
+if __name__ == "__main__":
+    main()
