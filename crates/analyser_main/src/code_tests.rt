@@ -234,7 +234,7 @@ fn branches(alloc: Global, count: usize) -> Result<Vec<u8>, AllocError> {
 fn heads_at_the_limit(rt: HostRuntime) -> Result<(), Fail> {
     let alloc = rt.alloc();
     let few = branches(alloc, 4093)?;
-    let (status, _) = answer_to(alloc, "analyse f --track a0", few, 131_072)?;
+    let (status, _) = answer_to(alloc, "cert f --track a0", few, 4096)?;
     assert_eq!(rt; status, 0);
     let many = branches(alloc, 4094)?;
     let (status, text) = answer_to(alloc, "analyse f --track a0", many, 4096)?;
