@@ -24,4 +24,5 @@ pub mod Tails
 pub mod Annihilating
 pub mod Insertion
 pub mod Existence
+pub mod Marked
 pub mod Laws

@@ -3,3 +3,4 @@ pub mod Inserts
 pub mod Laws
 pub mod Annihilators
 pub mod Products
+pub mod Whole

@@ -10,27 +10,33 @@ ghost use Rattle.lead_basis.specs.Inserts.{Adds};
 use crate::multiples::take_multiples;
 use crate::place::place;
 use crate::reduce::reduce;
+use crate::whole::{is_on, look};
 use crate::{Memory, Steps};
 use std::alloc::Global;
 use std::marker::Model;
 use std::sync::ledger::Ledger;
 use word_rows::Row;
 
-/// A leading-position basis of rows of N words, N from 1 to 512.
+/// A leading-position basis of rows of N words, N from 1 to 512. `whole` isn't 0 at some positions whose unit rows are in
+/// the module: a row that is 0 at each other is a member. They are looked for where a row was taken through the basis in
+/// vain, unless they were since the module grew (`looked`).
 #[derive(Drop)]
 pub struct Basis<const N: usize> {
     rows: Vec<Row<N>>,
+    whole: Row<N>,
+    looked: bool,
 }
 
 impl<const N: usize> Model for Basis<N> {
     ghost use Rattle.std.specs.Prelude.{ℕ, List, ◌≤◌};
     ghost use Rattle.row_modules.specs.Bases.{IsLeadingBasis};
+    ghost use Rattle.lead_basis.specs.Whole.{HasWhole};
 
     ghost Value = { List (List ℕ) };
 
     ghost view = { λ b. b.rows.items };
 
-    ghost invariant = { λ b. (1 ≤ N) × (N ≤ 512) × IsLeadingBasis N b.rows.items };
+    ghost invariant = { λ b. (1 ≤ N) × (N ≤ 512) × IsLeadingBasis N b.rows.items × HasWhole N b.rows.items b.whole };
 }
 
 impl<const N: usize> Basis<N> {
@@ -42,6 +48,8 @@ impl<const N: usize> Basis<N> {
     {
         Basis {
             rows: Vec::new(alloc),
+            whole: Row::zero(),
+            looked: false,
         }
     }
 
@@ -74,13 +82,22 @@ impl<const N: usize> Basis<N> {
     /// module grew. Out of memory, which never comes for a row of the module, the module lies between the two.
     /// The counter rises by at least 1 where the module grew and by 0 where it didn't, by at least the gain in rows, and
     /// never by more than the gain in length.
-    pub fn insert<L: Ledger>(&mut self, row: Row<N>, steps: &mut Steps<L>) -> Result<bool, Memory>
+    pub fn insert<L: Ledger>(
+        &mut self,
+        mut row: Row<N>,
+        steps: &mut Steps<L>,
+    ) -> Result<bool, Memory>
         ensures same_module { OnOk result (SameModule N (Contains self.new) (Contains (row.entry ∷ self.old))) }
         ensures grew { IfOk result (λ grew. IsTrue grew ↔ ¬ IsWithin N (Contains self.new) (Contains self.old)) }
         ensures adds { Adds N self.old row.entry self.new result steps.old steps.new }
     {
         row.known();
-        place(&mut self.rows, 0, &row, steps)
+        if is_on(&row, &self.whole) {
+            return Ok(false);
+        }
+        let grew = place(&mut self.rows, 0, &mut row, steps)?;
+        look(&self.rows, &mut self.whole, &mut self.looked, grew);
+        Ok(grew)
     }
 
     /// The one reduced basis of the module: in the column of each pivot every earlier row has a smaller word. It takes no

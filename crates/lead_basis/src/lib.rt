@@ -25,6 +25,7 @@ mod reduce;
 mod steps;
 #[cfg(test)]
 mod tests;
+mod whole;
 
 pub use annihilator::generators_tell_annihilators;
 pub use basis::Basis;

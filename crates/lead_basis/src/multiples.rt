@@ -1,6 +1,6 @@
 //! Multiples of rows: what elimination does with two rows.
 
-ghost use Rattle.std.specs.Prelude.{◌≡◌, ℕ, ◌<◌, ◌-◌, ◌^◌};
+ghost use Rattle.std.specs.Prelude.{◌≡◌, ℕ, ◌<◌, ◌-◌, ◌^◌, ◌%◌, ◌↔◌, IsTrue, slice_index};
 ghost use Rattle.word_rows.specs.Words.{word};
 ghost use Rattle.word_rows.specs.Rows.{words_of, times, lead, pivot};
 ghost use Rattle.row_modules.specs.Bases.{IsLeadingBasis};
@@ -17,6 +17,17 @@ pub(crate) fn take_multiple<const N: usize>(row: &mut Row<N>, by: &Row<N>)
     if let Some(lead) = by.lead() {
         let times = row.get(lead) / by.get(lead);
         row.add_scaled(times.wrapping_neg(), by);
+    }
+}
+
+/// Whether the pivot of `by` divides the word of a row at its lead.
+pub(crate) fn divides<const N: usize>(by: &Row<N>, row: &Row<N>) -> bool
+    requires { lead by.now < N }
+    ensures { IsTrue result ↔ (slice_index row.now (lead by.now) % pivot by.now ≡ 0) }
+{
+    match by.lead() {
+        Some(lead) => row.get(lead) % by.get(lead) == 0,
+        None => false,
     }
 }
 

@@ -5,7 +5,7 @@ ghost use Rattle.word_rows.specs.Rows.{lead, pivot};
 ghost use Rattle.row_modules.specs.Bases.{IsLeadingBasis};
 ghost use Rattle.lead_basis.specs.Inserts.{AddsFrom, HasLead, LacksLead};
 
-use crate::multiples::{closing, normal, take_multiple};
+use crate::multiples::{closing, divides, normal, take_multiple};
 use crate::{Memory, Steps};
 use std::sync::ledger::Ledger;
 use word_rows::Row;
@@ -39,17 +39,17 @@ fn find_lead<const N: usize>(rows: &[Row<N>], from: usize, position: usize) -> R
     }
 }
 
-/// Adds a row to those from `from` on.
+/// Adds a row to those from `from` on, and leaves in its place what is left of it.
 #[cycle(place)]
 pub(crate) fn place<const N: usize, L: Ledger>(
     rows: &mut Vec<Row<N>>,
     from: usize,
-    row: &Row<N>,
+    row: &mut Row<N>,
     steps: &mut Steps<L>,
 ) -> Result<bool, Memory>
     requires within { from ≤ vec_len rows.old }
     requires basis { IsLeadingBasis N (drop from rows.old.items) }
-    ensures { AddsFrom N from rows.old.items row.now rows.new.items result steps.old steps.new }
+    ensures { AddsFrom N from rows.old.items row.old rows.new.items result steps.old steps.new }
 {
     row.known();
     let Some(lead) = row.lead() else {
@@ -57,10 +57,9 @@ pub(crate) fn place<const N: usize, L: Ledger>(
     };
     match find_lead(rows, from, lead) {
         Ok(at) => {
-            let mut rest = *row;
-            take_multiple(&mut rest, &rows[at]);
-            if rest.get(lead) == 0 {
-                place(rows, at + 1, &rest, steps)
+            if divides(&rows[at], row) {
+                take_multiple(row, &rows[at]);
+                place(rows, at + 1, row, steps)
             } else {
                 exchange(rows, at, row, steps)
             }
@@ -85,7 +84,7 @@ fn add<const N: usize, L: Ledger>(
 {
     row.known();
     let own = normal(row);
-    place(rows, at, &closing(&own), steps)?;
+    place(rows, at, &mut closing(&own), steps)?;
     match rows.insert(at, own) {
         Ok(()) => {
             steps.tick();
@@ -113,7 +112,7 @@ fn exchange<const N: usize, L: Ledger>(
     let own = normal(row);
     let mut rest = rows[at];
     take_multiple(&mut rest, &own);
-    place(rows, at + 1, &rest, steps)?;
+    place(rows, at + 1, &mut rest, steps)?;
     rows[at] = own;
     steps.tick();
     Ok(true)

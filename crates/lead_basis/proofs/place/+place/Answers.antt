@@ -1,4 +1,6 @@
 use Rattle.std.proofs.Common.{rules, ◌≡◌, ◌≢◌, ◌<◌, ◌≤◌, ◌%◌, length, drop, slice_index, All, ℕ, List, ap, sym, subst, refl, ◌∙◌, arith, add-one}
+use Rattle.std.proofs.lemmas.Bool.{false≢true}
+use Rattle.std.proofs.lemmas.List.{get_or_default}
 use Rattle.std.proofs.lemmas.List.Elements.{at_read}
 use Rattle.word_rows.specs.Rows.{lead, pivot}
 use Rattle.lead_basis.specs.Remainders.{TakesMultiple}
@@ -89,39 +91,43 @@ place-returns-in-Err g t c =
     adds_from_reached g.row.N c.args.from c.in-Err.at c.in-Some.lead c.args.rows.now.items c.args.row.now c.add.new.rows.items c.add.result c.args.steps.now c.add.new.steps
     lacks.reached c.in-Some.ensures.first c.requires.basis c.known.ensures.row c.add.ensures
 
+same_divided : (row by also : List ℕ) → by ≡ also → slice_index row (lead by) % pivot by ≡ 0 → slice_index row (lead also) % pivot also ≡ 0
+same_divided row by also same e = subst (λ (b : List ℕ). slice_index row (lead b) % pivot b ≡ 0) same e
+
 pub place-place-requires : goal.place-place-requires
 place-place-requires g t c κs within =
     let has = subst (λ (x : List (List ℕ)). HasLead x c.args.from c.in-Some.lead c.in-Ok.at) c.deref.ensures.value c.in-Ok.ensures in
     let is_lead = c.in-Some.ensures.first in let inside = c.in-Some.ensures.within in
-    let m = meets g.row.N c.args.from c.in-Ok.at c.in-Some.lead c.args.rows.now.items c.args.row.now c.index.result.now has is_lead c.requires.basis c.index.ensures in
+    let m = meets g.row.N c.args.from c.in-Ok.at c.in-Some.lead c.args.rows.now.items c.args.row.now c.index-then-divides.result.now has is_lead c.requires.basis c.index-then-divides.ensures in
     let takes = c.take_multiple.ensures m.first.within in
-    let left : slice_index c.take_multiple.new.row (lead c.args.row.now) ≡ 0 = ap (λ (k : ℕ). slice_index c.take_multiple.new.row k) (sym is_lead) ∙ sym c.get.ensures ∙ c.if-get-eq0.true in
-    let later = taken_later g.row.N c.index.result.now c.args.row.now c.take_multiple.new.row m.first.is_row m.same_lead (omega arith) takes left in
+    let left : slice_index c.take_multiple.new.row (lead c.args.row.now) ≡ 0 =
+    ap (λ (k : ℕ). slice_index c.take_multiple.new.row k) (sym m.same_lead) ∙ takes.left ∙ same_divided c.args.row.now c.index.result.now c.index-then-divides.result.now (c.index.ensures ∙ get_or_default c.args.rows.now.items c.in-Ok.at c.index.result.now c.index-then-divides.result.now m.below ∙ sym c.index-then-divides.ensures) (c.divides.ensures.0 c.if-divides.true) in
+    let later = taken_later g.row.N c.index-then-divides.result.now c.args.row.now c.take_multiple.new.row m.first.is_row m.same_lead (omega arith) takes left in
     let v = takes.is_row.width in let u = c.known.ensures.row.width in let below = m.below in let ok = c.args.rows.now.ok in
     (omega arith, (search rules, (within, (search rules, (omega arith, rw add-one m.rest)))))
 
-pub place-returns-then-get-eq0 : goal.place-returns-then-get-eq0
-place-returns-then-get-eq0 g t c =
+pub place-returns-then-divides : goal.place-returns-then-divides
+place-returns-then-divides g t c =
     let has = subst (λ (x : List (List ℕ)). HasLead x c.args.from c.in-Some.lead c.in-Ok.at) c.deref.ensures.value c.in-Ok.ensures in
     let is_lead = c.in-Some.ensures.first in let inside = c.in-Some.ensures.within in
-    let m = meets g.row.N c.args.from c.in-Ok.at c.in-Some.lead c.args.rows.now.items c.args.row.now c.index.result.now has is_lead c.requires.basis c.index.ensures in
+    let m = meets g.row.N c.args.from c.in-Ok.at c.in-Some.lead c.args.rows.now.items c.args.row.now c.index-then-divides.result.now has is_lead c.requires.basis c.index-then-divides.ensures in
     let takes = c.take_multiple.ensures m.first.within in
-    let left : slice_index c.take_multiple.new.row (lead c.args.row.now) ≡ 0 = ap (λ (k : ℕ). slice_index c.take_multiple.new.row k) (sym is_lead) ∙ sym c.get.ensures ∙ c.if-get-eq0.true in
-    let later = taken_later g.row.N c.index.result.now c.args.row.now c.take_multiple.new.row m.first.is_row m.same_lead (omega arith) takes left in
-    let same = m.same_lead in let is = ap lead c.index.ensures in
+    let left : slice_index c.take_multiple.new.row (lead c.args.row.now) ≡ 0 =
+    ap (λ (k : ℕ). slice_index c.take_multiple.new.row k) (sym m.same_lead) ∙ takes.left ∙ same_divided c.args.row.now c.index.result.now c.index-then-divides.result.now (c.index.ensures ∙ get_or_default c.args.rows.now.items c.in-Ok.at c.index.result.now c.index-then-divides.result.now m.below ∙ sym c.index-then-divides.ensures) (c.divides.ensures.0 c.if-divides.true) in
+    let later = taken_later g.row.N c.index-then-divides.result.now c.args.row.now c.take_multiple.new.row m.first.is_row m.same_lead (omega arith) takes left in
+    let same = m.same_lead in let is = ap lead c.index-then-divides.ensures in
     adds_from_reached g.row.N c.args.from c.in-Ok.at c.in-Some.lead c.args.rows.now.items c.args.row.now c.place.new.rows.items c.place.result c.args.steps.now c.place.new.steps
     has.reached is_lead c.requires.basis c.known.ensures.row
-    (adds_from_passed g.row.N c.in-Ok.at c.args.rows.now.items c.args.row.now m.below m.basis c.known.ensures.row c.index.result.now c.take_multiple.new.row c.place.new.rows.items c.place.result c.args.steps.now c.place.new.steps
-    (subst (λ (x : List ℕ). TakesMultiple g.row.N x c.args.row.now c.take_multiple.new.row) c.index.ensures takes) (omega arith) (rw add-one at c.place.ensures))
+    (adds_from_passed g.row.N c.in-Ok.at c.args.rows.now.items c.args.row.now m.below m.basis c.known.ensures.row c.index-then-divides.result.now c.take_multiple.new.row c.place.new.rows.items c.place.result c.args.steps.now c.place.new.steps
+    (subst (λ (x : List ℕ). TakesMultiple g.row.N x c.args.row.now c.take_multiple.new.row) c.index-then-divides.ensures takes) (omega arith) (rw add-one at c.place.ensures))
 
 pub place-exchange-requires : goal.place-exchange-requires
 place-exchange-requires g t c κs within =
     let has = subst (λ (x : List (List ℕ)). HasLead x c.args.from c.in-Some.lead c.in-Ok.at) c.deref.ensures.value c.in-Ok.ensures in
     let is_lead = c.in-Some.ensures.first in let inside = c.in-Some.ensures.within in
     let m = meets g.row.N c.args.from c.in-Ok.at c.in-Some.lead c.args.rows.now.items c.args.row.now c.index.result.now has is_lead c.requires.basis c.index.ensures in
-    let takes = c.take_multiple.ensures m.first.within in
     let left : slice_index c.args.row.now (lead c.args.row.now) % pivot c.index.result.now ≢ 0 = λ z.
-    c.if-get-eq0.false (c.get.ensures ∙ ap (λ (k : ℕ). slice_index c.take_multiple.new.row k) (is_lead ∙ sym m.same_lead) ∙ takes.left ∙ ap (λ (k : ℕ). slice_index c.args.row.now k % pivot c.index.result.now) m.same_lead ∙ z) in
+    absurd (false≢true (sym c.if-divides.false ∙ c.divides.ensures.1 (ap (λ (k : ℕ). slice_index c.args.row.now k % pivot c.index.result.now) m.same_lead ∙ z))) in
     let below = m.below in let ok = c.args.rows.now.ok in (
       omega arith,
       (
@@ -145,8 +151,8 @@ place-exchange-requires g t c κs within =
       ),
     )
 
-pub place-returns-else-get-eq0 : goal.place-returns-else-get-eq0
-place-returns-else-get-eq0 g t c =
+pub place-returns-else-divides : goal.place-returns-else-divides
+place-returns-else-divides g t c =
     let has = subst (λ (x : List (List ℕ)). HasLead x c.args.from c.in-Some.lead c.in-Ok.at) c.deref.ensures.value c.in-Ok.ensures in
     adds_from_reached g.row.N c.args.from c.in-Ok.at c.in-Some.lead c.args.rows.now.items c.args.row.now c.exchange.new.rows.items c.exchange.result c.args.steps.now c.exchange.new.steps
     has.reached c.in-Some.ensures.first c.requires.basis c.known.ensures.row c.exchange.ensures
