@@ -9,20 +9,20 @@ use Rattle.row_modules.specs.Bases.{IsLeadingBasis}
 use Rattle.affine_prog.specs.declared.Program.{Program}
 use Rattle.affine_prog.specs.Programs.{IsWellFormed}
 use Rattle.affine_prog.specs.Spans.{rows_at}
-use Rattle.block_program.specs.declared.Blocks.{Blocks}
+use Rattle.block_program.specs.Contractions.{Contraction}
 use Rattle.block_program.specs.Chains.{IsInner}
 use Rattle.block_program.specs.Numbers.{AreBlocks, number_of}
 use Rattle.analyser_core.specs.States.{HasStates, inner_part, inner_count, AreInnerStatesBelow, AreInnerStates}
 use Rattle.analyser_core.proofs.Counted.{sums_rise}
 use Rattle.analyser_core.proofs.NodeStates.{none_at}
 
-pub record InnerSoFar (program : Program) (blocks : Blocks) (start now n : ℕ) (inner : List (List (List ℕ))) : Type 0 where
+pub record InnerSoFar (program : Program) (blocks : Contraction) (start now n : ℕ) (inner : List (List (List ℕ))) : Type 0 where
   pub states : AreInnerStatesBelow program n inner
   pub rises : start ≤ now
   pub counts_no_more : now ≤ start + 64 * (program.width + 1) * sum_by inner_part (take n blocks.numbers)
   pub counts_rows : start + sum_by length inner ≤ now
 
-pub so_far_none : (program : Program) (blocks : Blocks) (start : ℕ) → InnerSoFar program blocks start start 0 []
+pub so_far_none : (program : Program) (blocks : Contraction) (start : ℕ) → InnerSoFar program blocks start start 0 []
 so_far_none program blocks start = record {
   states = record { long = omega arith; bases = All-nil (IsLeadingBasis 17); exact = λ v below inner. absurd (omega (arith, below)) };
   rises = omega arith;
@@ -38,7 +38,7 @@ times_rise k a c at_most =
     let split : 64 * (k + 1) * (a + d) ≡ 64 * (k + 1) * a + 64 * (k + 1) * d = omega arith in
     let whole = ap (λ (m : ℕ). 64 * (k + 1) * m) e in omega (arith, whole, split)
 
-module _ (program : Program) (formed : IsWellFormed program) (blocks : Blocks) (b : AreBlocks program blocks) (start now after n : ℕ) (inner : List (List (List ℕ)))
+module _ (program : Program) (formed : IsWellFormed program) (blocks : Contraction) (b : AreBlocks program blocks) (start now after n : ℕ) (inner : List (List (List ℕ)))
     (below : n < program.nodes) (so_far : InnerSoFar program blocks start now n inner)
     (counts : after ≤ now + 64 * (program.width + 1) * inner_part (number_of blocks n)) where
   counted : after ≤ start + 64 * (program.width + 1) * sum_by inner_part (take (n + 1) blocks.numbers)
@@ -87,7 +87,7 @@ module _ (program : Program) (formed : IsWellFormed program) (blocks : Blocks) (
         }
 
 -- once all nodes are done
-module _ (program : Program) (blocks : Blocks) (b : AreBlocks program blocks) (start now n : ℕ) (inner : List (List (List ℕ))) (past : program.nodes ≤ n) (end : n ≤ program.nodes)
+module _ (program : Program) (blocks : Contraction) (b : AreBlocks program blocks) (start now n : ℕ) (inner : List (List (List ℕ))) (past : program.nodes ≤ n) (end : n ≤ program.nodes)
     (so_far : InnerSoFar program blocks start now n inner) where
   pub all_states : AreInnerStates program inner
   all_states = let e : n ≡ program.nodes = omega (arith, past, end) in subst (λ (i : ℕ). AreInnerStatesBelow program i inner) e so_far.states

@@ -8,3 +8,4 @@ mod NodeStates
 mod Counted
 mod InnerSoFar
 mod Answered
+mod Passed

@@ -9,7 +9,7 @@ use Rattle.affine_prog.specs.declared.Kind.TheVariants.{Do}
 use Rattle.affine_prog.specs.declared.Assign.{Assign}
 use Rattle.affine_prog.specs.Programs.{edge, IsWellFormed}
 use Rattle.affine_prog.specs.Spans.{rows_at, IsStateAt, AreReached}
-use Rattle.block_program.specs.declared.Blocks.{Blocks}
+use Rattle.block_program.specs.Contractions.{Contraction}
 use Rattle.block_program.specs.Chains.{IsInner}
 use Rattle.block_program.specs.EdgesInto.{assigns_of, IsEdgeInto}
 use Rattle.block_program.specs.Numbers.{AreBlocks, IsNumber, number_of, edge_number_of}
@@ -38,7 +38,7 @@ step_into program v k e i read =
       contains = subst (Contains program.edges) (sym read ∙ whole) (Contains-get_or program.edges k e i.within);
     }
 
-module _ (program : Program) (formed : IsWellFormed program) (blocks : Blocks) (b : AreBlocks program blocks) where
+module _ (program : Program) (formed : IsWellFormed program) (blocks : Contraction) (b : AreBlocks program blocks) where
   pub inner_at : (v : ℕ) → v < program.nodes → number_of blocks v ≡ None → IsInner program v
   inner_at v below none = let t = b.numbers in subst (λ (o : Option ℕ). MatchOption o (IsInner program v) (IsNumber b.heads v)) none (t.at v below)
 

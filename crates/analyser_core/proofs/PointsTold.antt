@@ -50,22 +50,17 @@ slice_get-joined (y ∷ xs) ys (suc k) x e =
       | inr (j, is, h) ↦ inr (j, omega arith, h)
     ]
 
-one_told : (program : Program) (points : FlowPoints) (names : List Name) (u j : ℕ) (point q : PointRows) → IsTold program points names u point →
-    slice_get (point ∷ []) j ≡ Some q → IsTold program points names (u + j) q
-one_told program points names u zero point q told e =
-    let at : u ≡ u + 0 = omega arith in
-    subst (λ (i : ℕ). IsTold program points names i q) at (subst (IsTold program points names u) (one_item e) told)
-one_told program points names u (suc j) point q told e = let within = slice_get_within (point ∷ []) (suc j) q e in absurd (omega arith)
+one_told : (P : ℕ → PointRows → Type 0) (u j : ℕ) (point q : PointRows) → P u point → slice_get (point ∷ []) j ≡ Some q → P (u + j) q
+one_told P u zero point q told e = let at : u ≡ u + 0 = omega arith in subst (λ (i : ℕ). P i q) at (subst (P u) (one_item e) told)
+one_told P u (suc j) point q told e = let within = slice_get_within (point ∷ []) (suc j) q e in absurd (omega arith)
 
--- one more point
-pub told_more : (program : Program) (points : FlowPoints) (names : List Name) (told : List PointRows) (u : ℕ) (point : PointRows) → length told ≡ u →
-    AreTold program points names told → IsTold program points names u point → AreTold program points names (told ++ point ∷ [])
-told_more program points names told u point size all one k q e =
+-- what is told of each point is told of one more
+pub told_more : (P : ℕ → PointRows → Type 0) (told : List PointRows) (u : ℕ) (point : PointRows) → length told ≡ u →
+    ((k : ℕ) (q : PointRows) → slice_get told k ≡ Some q → P k q) → P u point → (k : ℕ) (q : PointRows) → slice_get (told ++ point ∷ []) k ≡ Some q → P k q
+told_more P told u point size all one k q e =
     elim (slice_get-joined told (point ∷ []) k q e) [
       | inl h ↦ all k q h
-      | inr (j, is, h) ↦
-          let at : u + j ≡ k = omega (arith, is, size) in
-          subst (λ (i : ℕ). IsTold program points names i q) at (one_told program points names u j point q one h)
+      | inr (j, is, h) ↦ let at : u + j ≡ k = omega (arith, is, size) in subst (λ (i : ℕ). P i q) at (one_told P u j point q one h)
     ]
 
 pub one_longer : (told new : List PointRows) (point : PointRows) (u : ℕ) → new ≡ told ++ point ∷ [] → length told ≡ u → length new ≡ u + 1

@@ -1,25 +1,21 @@
 -- What a report says of runs of the machine.
-use Rattle.std.proofs.Common.{◌≡◌, ◌≢◌, ℕ, ◌<◌, ◌≤◌, List, ◌∷◌, All, AllPairs, length, slice_get, get_or, Option, Some, inl, inr, refl, ap, sym, ◌∙◌, arith, subst}
+use Rattle.std.proofs.Common.{◌≡◌, ◌≢◌, ℕ, ◌≤◌, List, All, AllPairs, length, slice_get, get_or, Some, inl, inr, refl, sym, ◌∙◌, arith, subst}
 use Rattle.std.proofs.lemmas.Bool.{cases_lt}
 use Rattle.std.proofs.lemmas.List.Elements.{All-contains_itself}
 use Rattle.std.proofs.lemmas.Option.{get_or_from_slice_get, slice_get-get_or, slice_get_within}
 use Rattle.word_rows.specs.Rows.{dot}
 use Rattle.elf_image.specs.declared.image.Image.{Image}
-use Rattle.flow_points.specs.PointLists.{FlowPoints}
-use Rattle.flow_points.specs.declared.code_points.CodePoint.{CodePoint}
-use Rattle.flow_points.specs.declared.code_points.Point.{Point}
 use Rattle.flow_points.proofs.SamePoint.{one_point}
 use Rattle.affine_prog.specs.Relations.{Holds}
 use Rattle.affine_lift.proofs.Cited.{node_is}
 use Rattle.report_text.specs.Names.{IsName}
 use Rattle.report_text.specs.declared.names.Name.{Name}
 use Rattle.report_text.specs.declared.points.PointRows.{PointRows}
-use Rattle.report_text.specs.declared.points.PointState.{PointState}
 use Rattle.report_text.specs.declared.points.PointState.TheVariants.{Rows}
 use Rattle.report_text.specs.declared.reports.Report.{Report}
 use Rattle.rv_step.specs.Harts.{Hart}
-use Rattle.run_paths.specs.Lifts.{AreDistinct, IsLiftOf, Lift, node}
-use Rattle.run_paths.specs.Activations.{activations_at, state_of}
+use Rattle.run_paths.specs.Lifts.{AreDistinct, Lift, node}
+use Rattle.run_paths.specs.Activations.{state_of}
 use Rattle.run_paths.specs.Discipline.{IsRunTo, KeepsDiscipline}
 use Rattle.run_paths.specs.Relations.{ObeysRelations}
 use Rattle.run_paths.proofs.Certifying.{restores}
@@ -27,7 +23,7 @@ use Rattle.run_paths.proofs.Following.{follows}
 use Rattle.run_paths.proofs.Lifted.{has_code}
 use Rattle.run_paths.proofs.Obeying.{obeys}
 use Rattle.analyser_core.specs.MachineRuns.{IsReportOfLift, IsToldAt, RowsAreZero, TellsOfRuns}
-use Rattle.analyser_core.specs.Reports.{IsReportOf, IsReportOver, TellsState}
+use Rattle.analyser_core.specs.Reports.{IsReportOver, TellsState}
 use Rattle.analyser_core.specs.declared.cert_line.CertLine.{CertLine}
 
 -- names of which no two are equal stand at one place each

@@ -8,7 +8,7 @@ use Rattle.lead_basis.proofs.Laws.{as_many_rows, turned, transitive}
 use Rattle.affine_prog.specs.declared.Program.{Program}
 use Rattle.affine_prog.specs.Programs.{IsWellFormed}
 use Rattle.affine_prog.specs.Spans.{rows_at, AreReached}
-use Rattle.block_program.specs.declared.Blocks.{Blocks}
+use Rattle.block_program.specs.Contractions.{Contraction}
 use Rattle.block_program.specs.Chains.{IsInner}
 use Rattle.block_program.specs.Numbers.{AreBlocks, number_of}
 use Rattle.flow_points.specs.PointLists.{FlowPoints}
@@ -23,7 +23,7 @@ use Rattle.analyser_core.proofs.NodeStates.{inner_at, number_at, states_known}
 basis_at : (lists : List (List (List ℕ))) (u : ℕ) → All (IsLeadingBasis 17) lists → u < length lists → IsLeadingBasis 17 (rows_at lists u)
 basis_at lists u all below = all u [] below
 
-module _ (program : Program) (formed : IsWellFormed program) (blocks : Blocks) (b : AreBlocks program blocks) where
+module _ (program : Program) (formed : IsWellFormed program) (blocks : Contraction) (b : AreBlocks program blocks) where
   -- heads and inner nodes are no more than all nodes
   pub few_inner : length b.heads + inner_count blocks ≤ program.nodes
   few_inner =
@@ -62,7 +62,7 @@ module _ (program : Program) (formed : IsWellFormed program) (blocks : Blocks) (
       omega (arith, sums, a, c, d)
 
 -- maps at heads, states at heads and states at inner nodes together stay within the bound
-module _ (points : FlowPoints) (names : List Name) (program : Program) (formed : IsWellFormed program) (blocks : Blocks) (b : AreBlocks program blocks) (lifted : IsLifted points names program) where
+module _ (points : FlowPoints) (names : List Name) (program : Program) (formed : IsWellFormed program) (blocks : Contraction) (b : AreBlocks program blocks) (lifted : IsLifted points names program) where
   pub within_bound : (before between middle after : ℕ) → before ≤ between
       → between ≤ before + 64 * blocks.small.nodes * ((blocks.small.width + 1) * (blocks.small.width + 1)) → between ≤ middle
       → middle ≤ between + 64 * blocks.small.nodes * (blocks.small.width + 1) → middle ≤ after → after ≤ middle + 64 * (program.width + 1) * inner_count blocks

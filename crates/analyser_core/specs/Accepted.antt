@@ -22,7 +22,7 @@ use Rattle.report_text.specs.declared.names.Name.{Name}
 use Rattle.affine_lift.specs.declared.refusal.TrackRefusal as tracks
 use Rattle.affine_prog.specs.declared.Program.{Program}
 use Rattle.affine_lift.specs.Lifting.{IsLifted}
-use Rattle.affine_lift.specs.Tracking.{IsTracked, IsTrackRefusal}
+use Rattle.affine_lift.specs.Tracking.{IsTracked, IsTrackRefusal, scope_of}
 use Rattle.analyser_core.specs.Heads.{most_heads, HasManyHeads}
 use Rattle.analyser_core.specs.declared.refusal.Refusal.{Refusal}
 use Rattle.analyser_core.specs.declared.refusal.Refusal.TheVariants.{Elf, Flow, Track, Heads, Memory}
@@ -30,7 +30,7 @@ use Rattle.analyser_core.specs.declared.refusal.Refusal.TheVariants.{Elf, Flow, 
 abbrev pub most_bytes : ℕ
 most_bytes = 2 ^ 24
 
--- each image keeps that its file is accepted, and that it is the file's
+-- each image keeps that its file is accepted, and that it is the file's, with the file's symbols
 abbrev pub IsImageOf : List ℕ → Image → Type 0
 IsImageOf bytes image = image.file ≡ bytes
 
@@ -41,7 +41,7 @@ pub record HasPoints (image : Image) (points : FlowPoints) : Type 0 where
 pub record IsAccepted (bytes list : List ℕ) (image : Image) (points : FlowPoints) (names : List Name) : Type 0 where
   pub is_image : IsImageOf bytes image
   pub has_points : HasPoints image points
-  pub is_tracked : IsTracked points.procedures list names
+  pub is_tracked : IsTracked (scope_of image.symbols points.procedures) list names
 
 pub record IsAcceptedAs (bytes list : List ℕ) (points : FlowPoints) (names : List Name) : Type 0 where
   pub image : Image
@@ -69,6 +69,7 @@ abbrev pub IsRefusal : List ℕ → List ℕ → Refusal → Type 0
 IsRefusal bytes list (Elf refusal) = refusal_of bytes ≡ Some refusal
 IsRefusal bytes list (Flow refusal) = (image : Image) × IsImageOf bytes image × IsFlowRefusal image refusal
 IsRefusal bytes list (Track refusal) =
-    (image : Image) × (points : FlowPoints) × IsImageOf bytes image × HasPoints image points × IsTrackRefusal points.procedures list refusal × (refusal ≢ tracks.TheVariants.Memory)
+    (image : Image) × (points : FlowPoints) × IsImageOf bytes image × HasPoints image points
+    × IsTrackRefusal (scope_of image.symbols points.procedures) list refusal × (refusal ≢ tracks.TheVariants.Memory)
 IsRefusal bytes list (Heads limit) = (limit ≡ most_heads) × IsCrowded bytes list
 IsRefusal bytes list Memory = Unit {0}

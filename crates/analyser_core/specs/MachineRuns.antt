@@ -10,7 +10,7 @@
 --   TellsOfRuns bytes list report certs
 --                                   the bytes and the list are accepted, with an image and its lift; the report is of them; and
 --                                   a run of the image that keeps the discipline up to a moment is told at each one up to it
-use Rattle.std.specs.Prelude.{◌≡◌, ℕ, ◌≤◌, List, ◌∷◌, All, Option, Some, slice_get}
+use Rattle.std.specs.Prelude.{◌≡◌, ℕ, ◌≤◌, List, ◌∷◌, All, Some, slice_get}
 use Rattle.elf_image.specs.declared.image.Image.{Image}
 use Rattle.word_rows.specs.Rows.{dot}
 use Rattle.flow_points.specs.declared.code_points.CodePoint.{CodePoint}

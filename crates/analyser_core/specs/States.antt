@@ -13,7 +13,7 @@ use Rattle.row_modules.specs.Bases.{IsLeadingBasis}
 use Rattle.row_modules.specs.Modules.{SameModule}
 use Rattle.affine_prog.specs.declared.Program.{Program}
 use Rattle.affine_prog.specs.Spans.{rows_at, IsStateAt}
-use Rattle.block_program.specs.declared.Blocks.{Blocks}
+use Rattle.block_program.specs.Contractions.{Contraction}
 use Rattle.block_program.specs.Chains.{IsInner}
 use Rattle.block_program.specs.Numbers.{number_of}
 
@@ -21,14 +21,14 @@ abbrev pub states_by : List (List (List ℕ)) → List (List (List ℕ)) → ℕ
 states_by reached inner v None = rows_at inner v
 states_by reached inner v (Some i) = rows_at reached i
 
-abbrev pub states_in : Blocks → List (List (List ℕ)) → List (List (List ℕ)) → ℕ → List (List ℕ)
+abbrev pub states_in : Contraction → List (List (List ℕ)) → List (List (List ℕ)) → ℕ → List (List ℕ)
 states_in blocks reached inner v = states_by reached inner v (number_of blocks v)
 
 abbrev pub inner_part : Option ℕ → ℕ
 inner_part None = 1
 inner_part (Some i) = 0
 
-abbrev pub inner_count : Blocks → ℕ
+abbrev pub inner_count : Contraction → ℕ
 inner_count blocks = sum_by inner_part blocks.numbers
 
 abbrev pub HasStates : Program → ℕ → List (List ℕ) → Type 0

@@ -4,11 +4,14 @@
 --   RelatesBy set states rows      the module of the states isn't zero, and the rows are the reduced basis of its relations on
 --                                  these positions
 --   Relates set states state       the state tells the relations on these positions of the module of the states
+--   AreRelated program blocks reached inner told
+--                                  each of the first points tells the relations of the states at its node
+--   PassesOn program u v           an edge that assigns nothing is the one edge into the inner node v, and comes from u
 --   IsTold program points names u point
 --                                  the point is point u, tells what holds there, and its rows are those of a report
 --   AreTold program points names told
 --                                  so are the first points, as many as there are
-use Rattle.std.specs.Prelude.{◌≡◌, ℕ, List, Some, Contains, slice_get}
+use Rattle.std.specs.Prelude.{◌≡◌, ℕ, ◌<◌, List, [], Some, Contains, slice_get}
 use Rattle.row_modules.specs.Positions.{with_constant}
 use Rattle.row_modules.specs.Modules.{IsCombination, Generates}
 use Rattle.row_modules.specs.Bases.{IsLeadingBasis, IsReduced}
@@ -16,13 +19,17 @@ use Rattle.row_modules.specs.Forms.{Annihilates}
 use Rattle.relation_solver.specs.Zero.{HasZeroAlone}
 use Rattle.flow_points.specs.PointLists.{FlowPoints}
 use Rattle.flow_points.specs.declared.code_points.CodePoint.{CodePoint}
-use Rattle.affine_prog.specs.Programs.{owner_of, visible_in}
+use Rattle.affine_prog.specs.Programs.{edge, owner_of, visible_in}
 use Rattle.affine_prog.specs.declared.Program.{Program}
+use Rattle.affine_prog.specs.declared.Kind.TheVariants.{Do}
+use Rattle.block_program.specs.Contractions.{Contraction}
+use Rattle.block_program.specs.Chains.{IsInner}
 use Rattle.report_text.specs.Reports.{AreRowsAt}
 use Rattle.report_text.specs.declared.names.Name.{Name}
 use Rattle.report_text.specs.declared.points.PointRows.{PointRows}
 use Rattle.report_text.specs.declared.points.PointState.{PointState}
 use Rattle.report_text.specs.declared.points.PointState.TheVariants.{Unreached, Rows}
+use Rattle.analyser_core.specs.States.{states_in}
 use Rattle.analyser_core.specs.Reports.{Tells}
 
 abbrev pub told_positions : Program → ℕ → ℕ
@@ -37,6 +44,15 @@ pub record RelatesBy (set : ℕ) (states rows : List (List ℕ)) : Type 0 where
 abbrev pub Relates : ℕ → List (List ℕ) → PointState → Type 0
 Relates set states Unreached = HasZeroAlone 17 (Contains states)
 Relates set states (Rows rows) = RelatesBy set states rows
+
+abbrev pub AreRelated : Program → Contraction → List (List (List ℕ)) → List (List (List ℕ)) → List PointRows → Type 0
+AreRelated program blocks reached inner told =
+    (u : ℕ) (point : PointRows) → slice_get told u ≡ Some point → Relates (told_positions program u) (states_in blocks reached inner u) point.state
+
+pub record PassesOn (program : Program) (u v : ℕ) : Type 0 where
+  pub below : u < v
+  pub inner : IsInner program v
+  pub along : Contains program.edges (edge u v (Do []))
 
 pub record IsTold (program : Program) (points : FlowPoints) (names : List Name) (u : ℕ) (point : PointRows) : Type 0 where
   pub code : CodePoint

@@ -49,7 +49,7 @@ pub(crate) fn accepted(
         Ok(points) => points,
         Err(refusal) => return Err(refusal),
     };
-    match read_tracked(alloc, list, &points) {
+    match read_tracked(alloc, list, &image, &points) {
         Ok(tracked) => Ok((points, tracked)),
         Err(refusal) if is_memory(refusal) => Err(Refusal::Memory),
         Err(refusal) => Err(Refusal::Track(refusal)),

@@ -17,6 +17,7 @@ mod analysis;
 mod cert_line;
 mod certify;
 mod laws;
+mod point_state;
 mod refusal;
 mod states;
 mod tell;

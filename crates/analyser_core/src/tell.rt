@@ -1,15 +1,15 @@
 //! The points of a report: what the states that reach them tell.
 
-ghost use Rattle.std.specs.Prelude.{◌≡◌, ◌<◌, ◌++◌, ◌∷◌, [], length, All, IsTrue, IfOk, OnOk};
+ghost use Rattle.std.specs.Prelude.{◌≡◌, ◌++◌, ◌∷◌, [], length, All, IfOk, OnOk};
 ghost use Rattle.row_modules.specs.Bases.{IsLeadingBasis};
-ghost use Rattle.row_modules.specs.Positions.{has};
 ghost use Rattle.affine_prog.specs.Programs.{IsWellFormed};
 ghost use Rattle.affine_prog.specs.Spans.{AreReached};
 ghost use Rattle.affine_lift.specs.Lifting.{IsLifted};
 ghost use Rattle.block_program.specs.Numbers.{AreBlocks};
 ghost use Rattle.analyser_core.specs.States.{AreInnerStates};
-ghost use Rattle.analyser_core.specs.Told.{told_positions, Relates, AreTold};
+ghost use Rattle.analyser_core.specs.Told.{AreTold};
 
+use crate::point_state::state_at;
 use crate::states::states_at;
 use affine_lift::visible_names_are_seen;
 use affine_prog::{Program, paths_keep_states, relations_annihilate_states};
@@ -17,8 +17,7 @@ use block_program::Blocks;
 use flow_points::Points;
 use lead_basis::{Basis, Memory};
 use reach_modules::Reach;
-use relation_solver::{Relations, solve};
-use report_text::{PointRows, PointState, Tracked};
+use report_text::{PointRows, Tracked};
 use sqlite_items::Items;
 use std::alloc::Global;
 
@@ -49,7 +48,7 @@ pub(crate) fn told(
         let point = points.point(u);
         let states = states_at(blocks, reached, inner, u);
         states.known();
-        let state = state_of(alloc, states, visible_at(program, u))?;
+        let state = state_at(alloc, program, blocks, reached, inner, told.as_slice(), u)?;
         let tells = PointRows {
             proc_entry: point.proc_entry,
             address: point.address,
@@ -70,39 +69,11 @@ pub(crate) fn known_states(reached: &Reach, nodes: u32)
     }
 }
 
-// The positions that are visible at a node, and the constant's.
-fn visible_at(program: &Program, node: u32) -> u32
-    requires formed { IsWellFormed program.now }
-    requires node { node < program.now.nodes }
-    ensures { result ≡ told_positions program.now node }
-{
-    let owner = program.proc_of(node) as usize;
-    let slots = program.procs.as_slice()[owner].slots;
-    u32::from(program.registers | slots) | 1 << 16
-}
-
 fn push(told: &mut Items<PointRows>, point: PointRows) -> Result<(), Memory>
     ensures { OnOk result (told.new ≡ told.old ++ point ∷ []) }
 {
     match told.push(point) {
         Ok(()) => Ok(()),
         Err(_) => Err(Memory),
-    }
-}
-
-// The relations of the states, where there are states.
-fn state_of(alloc: Global, states: &Basis<17>, visible: u32) -> Result<PointState, Memory>
-    requires { IsTrue (has visible 16) }
-    ensures { IfOk result (Relates visible states.now) }
-{
-    match solve::relations(alloc, states, visible)? {
-        Relations::Unreached => Ok(PointState::Unreached),
-        Relations::Rows(basis) => {
-            basis.known();
-            match Vec::from_slice(alloc, basis.rows()) {
-                Ok(rows) => Ok(PointState::Rows(Items::from_vec(rows))),
-                Err(_) => Err(Memory),
-            }
-        }
     }
 }

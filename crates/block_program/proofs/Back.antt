@@ -1,73 +1,22 @@
 -- Each path of the block program is one of the program, and so is it with a chain behind it.
-use Rattle.std.proofs.Common.{◌≡◌, ℕ, ◌<◌, List, ◌++◌, Contains, length, slice_index, refl, ap, ap₂, sym, subst, ◌∙◌, arith}
-use Rattle.std.proofs.lemmas.List.Elements.{All-contains}
+use Rattle.std.proofs.Common.{ℕ, ◌<◌, List, length, slice_index, refl, ap, ap₂, sym, subst, ◌∙◌, arith}
 use Rattle.map_modules.specs.Matrices.{product, apply, extension}
 use Rattle.affine_prog.specs.declared.Program.{Program}
-use Rattle.affine_prog.specs.declared.Kind.{Kind}
-use Rattle.affine_prog.specs.declared.Kind.TheVariants.{Do, Call}
 use Rattle.affine_prog.specs.declared.Assign.{Assign}
-use Rattle.affine_prog.specs.Programs.{edge, exit_of, slots_of, IsEdgeOf, IsWellFormed}
+use Rattle.affine_prog.specs.Programs.{exit_of, slots_of, IsWellFormed}
 use Rattle.affine_prog.specs.Assignments.{matrix_of}
 use Rattle.affine_prog.specs.LevelPaths.{opening_map, step_map, call_map, LevelPath, opening, step, call}
 use Rattle.affine_prog.specs.OpenPaths.{OpenPath, first, enter}
 use Rattle.block_program.specs.Chains.{Chain}
 use Rattle.block_program.specs.BlockPrograms.{IsBlockProgram}
 use Rattle.reach_modules.proofs.Laws.{Choice-parts}
-use Rattle.block_program.proofs.Edges.{own, edge_of, before_chain, before_chain_call}
+use Rattle.block_program.proofs.Sources.{edge_of_do, edge_of_call}
 use Rattle.block_program.proofs.Procs.{slots_same, entry_same, exit_same, as_many}
 use Rattle.block_program.specs.Laws.{IsLevelAlong, IsOpenAlong}
 use Rattle.block_program.proofs.Along.{step_map-append, open_map-append}
 use Rattle.block_program.proofs.Following.{follow, open_follow}
 
 module _ (program : Program) (heads : List ℕ) (small : Program) (w : IsWellFormed program) (blocks : IsBlockProgram program heads small) where
-  -- the edge of a block edge, and its chain
-  pub record EdgeOfDo (i j : ℕ) (assigns : List Assign) : Type 0 where
-    pub node : ℕ
-    pub chain : List Assign
-    pub mine : List Assign
-    pub leads : Chain program (slice_index heads i) node chain
-    pub member : Contains program.edges (edge node (slice_index heads j) (Do mine))
-    pub parts : assigns ≡ chain ++ mine
-
-  pub edge_of_do : (i j : ℕ) (assigns : List Assign) → Contains small.edges (edge i j (Do assigns)) → EdgeOfDo i j assigns
-  edge_of_do i j assigns contains =
-      let r = edge_of program heads small blocks (edge i j (Do assigns)) contains in
-      let e = r.0 in let b = r.2 in
-      let k = before_chain b.chain e.kind assigns b.kind in
-      record {
-        node = e.from;
-        chain = b.chain;
-        mine = own e.kind;
-        leads = b.leads;
-        member = let h = r.1 in subst (Contains program.edges) (ap₂ (λ (n : ℕ) (x : Kind). edge e.from n x) (sym b.same_end) k.0) h;
-        parts = k.1;
-      }
-
-  pub record EdgeOfCall (i j q : ℕ) (assigns : List Assign) : Type 0 where
-    pub node : ℕ
-    pub chain : List Assign
-    pub mine : List Assign
-    pub leads : Chain program (slice_index heads i) node chain
-    pub member : Contains program.edges (edge node (slice_index heads j) (Call q mine))
-    pub within : q < length program.procs
-    pub parts : assigns ≡ chain ++ mine
-
-  pub edge_of_call : (i j q : ℕ) (assigns : List Assign) → Contains small.edges (edge i j (Call q assigns)) → EdgeOfCall i j q assigns
-  edge_of_call i j q assigns contains =
-      let r = edge_of program heads small blocks (edge i j (Call q assigns)) contains in
-      let e = r.0 in let b = r.2 in
-      let k = before_chain_call b.chain e.kind q assigns b.kind in
-      let member : Contains program.edges (edge e.from (slice_index heads j) (Call q (own e.kind))) = let h = r.1 in subst (Contains program.edges) (ap₂ (λ (n : ℕ) (x : Kind). edge e.from n x) (sym b.same_end) k.0) h in
-      record {
-        node = e.from;
-        chain = b.chain;
-        mine = own e.kind;
-        leads = b.leads;
-        member = member;
-        within = let f = All-contains (IsEdgeOf program) program.edges _ w.edges member in f.kind.0;
-        parts = k.1;
-      }
-
   pub back : (p i : ℕ) (m : List ℕ) → LevelPath small p i m → LevelPath program p (slice_index heads i) m
   back p i m (opening p' i' words m' within at row is) =
       let count = as_many heads program.procs small.procs blocks.procs in
@@ -76,12 +25,12 @@ module _ (program : Program) (heads : List ℕ) (small : Program) (w : IsWellFor
       opening p _ words m inside (ap (slice_index heads) at ∙ same.1) row
       (is ∙ ap₂ (λ (r s : ℕ). opening_map r s words) blocks.registers (slots_same heads program.procs small.procs p blocks.procs))
   back p j n (step p' i j' assigns words m n' path contains choice is) =
-      let e = edge_of_do i j assigns contains in
+      let e = edge_of_do program heads small w blocks i j assigns contains in
       let c = Choice-parts e.chain e.mine words (let s = e.parts in rw s at choice) in
       step p e.node _ e.mine c.second _ n (follow program p _ e.node e.chain c.first m (back p i m path) e.leads c.first_choice) e.member c.second_choice
       (is ∙ ap₂ (λ (xs : List Assign) (ws : List ℕ). step_map xs ws m) e.parts (sym c.both) ∙ step_map-append e.chain e.mine c.first c.second m c.first_choice)
   back p j n (call p' q i j' before words m callee n' path contains choice called is) =
-      let e = edge_of_call i j q before contains in
+      let e = edge_of_call program heads small w blocks i j q before contains in
       let c = Choice-parts e.chain e.mine words (let s = e.parts in rw s at choice) in
       let out = exit_same heads program.procs small.procs q blocks.procs e.within in
       call p q e.node _ e.mine c.second _ callee n (follow program p _ e.node e.chain c.first m (back p i m path) e.leads c.first_choice) e.member c.second_choice
@@ -93,7 +42,7 @@ module _ (program : Program) (heads : List ℕ) (small : Program) (w : IsWellFor
   pub open_back : (start : List ℕ) (i : ℕ) (v : List ℕ) → OpenPath small start i v → OpenPath program start (slice_index heads i) v
   open_back start i v (first i' m v' path is) = first _ m v (back program.start i m (subst (λ p. LevelPath small p i m) blocks.start path)) is
   open_back start k after' (enter q i j k' before words m state after'' path contains choice called is) =
-      let e = edge_of_call i j q before contains in
+      let e = edge_of_call program heads small w blocks i j q before contains in
       let c = Choice-parts e.chain e.mine words (let s = e.parts in rw s at choice) in
       enter q e.node _ _ e.mine c.second m (apply (matrix_of e.chain c.first) state) after'
       (open_follow program start _ e.node e.chain c.first state (open_back start i state path) e.leads c.first_choice) e.member c.second_choice (back q k m called)

@@ -10,13 +10,10 @@ use Rattle.affine_prog.specs.declared.Assign.{Assign}
 use Rattle.affine_prog.specs.Programs.{edge}
 use Rattle.block_program.specs.Chains.{edges_into, IsInner, IsHead, Chain, here, after}
 use Rattle.block_program.specs.BlockPrograms.{behind, IsBlockEdge, edges_to, IsBlockProgram}
+use Rattle.block_program.specs.EdgesInto.{assigns_of}
 use Rattle.block_program.proofs.Lists.{first_or_later_in, nothing_in, filter_in, filter_out, zip_in, zip_out, listed}
 
--- the assignments of a kind, and its callee
-abbrev pub own : Kind → List Assign
-own (Do assigns) = assigns
-own (Call q before) = before
-
+-- the callee of a kind, and whether it calls
 abbrev pub callee_of : Kind → ℕ
 callee_of (Do assigns) = 0
 callee_of (Call q before) = q
@@ -45,8 +42,8 @@ pub record AtHead (program : Program) (h v : ℕ) (chain : List Assign) : Type 0
 pub record AlongEdge (program : Program) (h u : ℕ) (kind : Kind) (chain : List Assign) : Type 0 where
   pub rest : List Assign
   pub leads : Chain program h u rest
-  pub is_do : kind ≡ Do (own kind)
-  pub more : chain ≡ rest ++ own kind
+  pub is_do : kind ≡ Do (assigns_of kind)
+  pub more : chain ≡ rest ++ assigns_of kind
 
 pub chain_at : (program : Program) (h u v : ℕ) (kind : Kind) (chain : List Assign) → Contains program.edges (edge u v kind) → Chain program h v chain
     → AtHead program h v chain ⊎ AlongEdge program h u kind chain
@@ -57,8 +54,8 @@ chain_at program h u v kind chain contains (after h' u' v' rest assigns more lea
     inr (record {
       rest = rest;
       leads = let from : u' ≡ u = sym (ap (λ (x : Edge). x.from) e) in rw from at leads;
-      is_do = k ∙ ap Do (sym (ap own k));
-      more = is ∙ ap (λ (xs : List Assign). rest ++ xs) (sym (ap own k));
+      is_do = k ∙ ap Do (sym (ap assigns_of k));
+      more = is ∙ ap (λ (xs : List Assign). rest ++ xs) (sym (ap assigns_of k));
     })
 
 pub at_head : (program : Program) (h v : ℕ) (chain : List Assign) → IsHead program v → Chain program h v chain → (v ≡ h) × (chain ≡ [])
@@ -79,10 +76,10 @@ edge_of program heads small blocks b contains =
     (r.0, filter_out (λ (x : Edge). list_any (λ h. h == x.to) heads) program.edges r.0 r.1, r.2)
 
 -- the kind before a chain was put before it
-pub before_chain : (chain : List Assign) (kind : Kind) (assigns : List Assign) → Do assigns ≡ behind chain kind → (kind ≡ Do (own kind)) × (assigns ≡ chain ++ own kind)
-before_chain chain (Do mine) assigns e = (refl, ap own e)
+pub before_chain : (chain : List Assign) (kind : Kind) (assigns : List Assign) → Do assigns ≡ behind chain kind → (kind ≡ Do (assigns_of kind)) × (assigns ≡ chain ++ assigns_of kind)
+before_chain chain (Do mine) assigns e = (refl, ap assigns_of e)
 before_chain chain (Call q mine) assigns e = absurd (subst IsCall (sym e) tt)
 
-pub before_chain_call : (chain : List Assign) (kind : Kind) (q : ℕ) (assigns : List Assign) → Call q assigns ≡ behind chain kind → (kind ≡ Call q (own kind)) × (assigns ≡ chain ++ own kind)
+pub before_chain_call : (chain : List Assign) (kind : Kind) (q : ℕ) (assigns : List Assign) → Call q assigns ≡ behind chain kind → (kind ≡ Call q (assigns_of kind)) × (assigns ≡ chain ++ assigns_of kind)
 before_chain_call chain (Do mine) q assigns e = absurd (subst IsCall e tt)
-before_chain_call chain (Call q' mine) q assigns e = (ap (λ n. Call n mine) (sym (ap callee_of e)), ap own e)
+before_chain_call chain (Call q' mine) q assigns e = (ap (λ n. Call n mine) (sym (ap callee_of e)), ap assigns_of e)

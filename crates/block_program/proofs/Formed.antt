@@ -1,55 +1,25 @@
 -- The block program is well formed.
-use Rattle.std.proofs.Common.{◌≡◌, ℕ, ◌<◌, ◌^◌, List, [], ◌∷◌, Contains, All, AllPairs, length, map, get_or, slice_index, refl, ap, ap₂, sym, subst, ◌∙◌, arith, bit_or, Bool, ◌==◌}
-use Rattle.std.specs.List.{AllZip, list_any}
+use Rattle.std.proofs.Common.{◌≡◌, ℕ, ◌<◌, ◌^◌, List, ◌∷◌, Contains, All, AllPairs, length, get_or, slice_index, ap, ap₂, sym, subst, ◌∙◌, arith, bit_or, Bool, ◌==◌}
+use Rattle.std.specs.List.{list_any}
 use Rattle.std.proofs.lemmas.List.{length-map, get_or-map, get_or_default}
 use Rattle.std.proofs.lemmas.List.Sums.{length-filter, count_by-le-length}
 use Rattle.std.proofs.lemmas.Slice.Zip.{AllZip-long}
-use Rattle.std.proofs.lemmas.List.Elements.{All-contains, All-append, All-map, All-nil, Contains-get_or}
+use Rattle.std.proofs.lemmas.List.Elements.{All-map, Contains-get_or}
 use Rattle.affine_prog.specs.declared.Program.{Program}
-use Rattle.affine_prog.specs.declared.Proc.{Proc}
 use Rattle.affine_prog.specs.declared.Edge.{Edge}
 use Rattle.affine_prog.specs.declared.Kind.{Kind}
 use Rattle.affine_prog.specs.declared.Kind.TheVariants.{Do, Call}
-use Rattle.affine_prog.specs.declared.Assign.{Assign}
-use Rattle.affine_prog.specs.Programs.{edge, owner_of, visible_in, position_sets, AreDisjoint, IsAssignIn, IsKindIn, IsEdgeOf, OwnsItsEnds, IsWellFormed}
-use Rattle.block_program.specs.Chains.{Chain, here, after}
-use Rattle.block_program.specs.BlockPrograms.{behind, IsBlockEdge, IsBlockProc, edges_to, IsBlockProgram}
+use Rattle.affine_prog.specs.Programs.{owner_of, visible_in, position_sets, AreDisjoint, IsAssignIn, IsKindIn, IsEdgeOf, OwnsItsEnds, IsWellFormed}
+use Rattle.block_program.specs.BlockPrograms.{IsBlockEdge, edges_to, IsBlockProgram}
+use Rattle.block_program.specs.EdgesInto.{assigns_of}
 use Rattle.block_program.proofs.Edges.{edge_of}
-use Rattle.block_program.proofs.Procs.{slots_same, entry_same, exit_same, as_many}
-use Rattle.block_program.proofs.Forward.{head_at}
-
--- what a chain assigns is visible in the head's procedure, which is that of the chain's end
-module _ (program : Program) (w : IsWellFormed program) where
-  edge_in : (e : Edge) → Contains program.edges e → IsEdgeOf program e
-  edge_in e contains = All-contains (IsEdgeOf program) program.edges e w.edges contains
-
-  pub chain_stays : (h v : ℕ) (chain : List Assign) → Chain program h v chain → (owner_of program v ≡ owner_of program h) × All (IsAssignIn (visible_in program (owner_of program h))) chain
-  chain_stays h v chain (here h' v' chain' head same none) = (ap (owner_of program) same, rw none (All-nil _))
-  chain_stays h v more (after h' u v' chain assigns more' leads inner contains is) =
-      let r = chain_stays h u chain leads in
-      let e = edge_in (edge u v (Do assigns)) contains in (
-        sym e.one_owner ∙ r.0,
-        rw is (All-append (IsAssignIn (visible_in program (owner_of program h))) chain assigns r.1
-            (subst (λ (p : ℕ). All (IsAssignIn (visible_in program p)) assigns) r.0 e.kind)),
-      )
-
-abbrev assigns_of : Kind → List Assign
-assigns_of (Do assigns) = assigns
-assigns_of (Call q before) = before
-
-abbrev IsCalleeIn : ℕ → Kind → Type 0
-IsCalleeIn n (Do assigns) = Unit {0}
-IsCalleeIn n (Call q before) = q < n
-
-same_sets : (heads : List ℕ) (ps qs : List Proc) → AllZip (IsBlockProc heads) ps qs → map (λ (proc : Proc). proc.slots) qs ≡ map (λ (proc : Proc). proc.slots) ps
-same_sets heads [] [] zip = refl
-same_sets heads [] (q ∷ qs) zip = absurd zip
-same_sets heads (p ∷ ps) [] zip = absurd zip
-same_sets heads (p ∷ ps) (q ∷ qs) zip = let h = zip.0 in ap₂ (λ (x : ℕ) (xs : List ℕ). x ∷ xs) h.slots (same_sets heads ps qs zip.1)
+use Rattle.block_program.proofs.Procs.{sets_same, slots_same, entry_same, exit_same, as_many}
+use Rattle.block_program.proofs.HeadNumbers.{head_at}
+use Rattle.block_program.proofs.Staying.{edge_in, chain_stays, IsCalleeIn, behind_in}
 
 module _ (program : Program) (heads : List ℕ) (small : Program) (w : IsWellFormed program) (blocks : IsBlockProgram program heads small) where
   sets : position_sets small ≡ position_sets program
-  sets = ap₂ (λ (x : ℕ) (xs : List ℕ). x ∷ xs) blocks.registers (same_sets heads program.procs small.procs blocks.procs)
+  sets = ap₂ (λ (x : ℕ) (xs : List ℕ). x ∷ xs) blocks.registers (sets_same heads program.procs small.procs blocks.procs)
 
   pub count : length small.procs ≡ length program.procs
   count = as_many heads program.procs small.procs blocks.procs
@@ -77,10 +47,6 @@ module _ (program : Program) (heads : List ℕ) (small : Program) (w : IsWellFor
         exit_owner = owner_small _ b.0 ∙ ap (owner_of program) b.1 ∙ o.exit_owner;
       }
 
-  behind_in : (set : ℕ) (chain : List Assign) (p : ℕ) (kind : Kind) → visible_in program p ≡ set → All (IsAssignIn set) chain → IsKindIn program p kind → All (IsAssignIn set) (assigns_of (behind chain kind)) × IsCalleeIn (length program.procs) (behind chain kind)
-  behind_in set chain p (Do assigns) is all kind = (All-append (IsAssignIn set) chain assigns all (subst (λ (s : ℕ). All (IsAssignIn s) assigns) is kind), tt)
-  behind_in set chain p (Call q before) is all kind = (All-append (IsAssignIn set) chain before all (subst (λ (s : ℕ). All (IsAssignIn s) before) is kind.1), kind.0)
-
   edge_formed : (b : Edge) → Contains small.edges b → IsEdgeOf small b
   edge_formed b contains =
       let r = edge_of program heads small blocks b contains in
@@ -98,7 +64,7 @@ module _ (program : Program) (heads : List ℕ) (small : Program) (w : IsWellFor
             let set = visible_small (owner_of small b.from) ∙ ap (visible_in program) from_owner in
             kind_formed (owner_of small b.from) b.kind
             (subst (λ (x : Kind). All (IsAssignIn (visible_in small (owner_of small b.from))) (assigns_of x) × IsCalleeIn (length program.procs) x) (sym k.kind)
-            (behind_in (visible_in small (owner_of small b.from)) k.chain (owner_of program e.from) e.kind
+            (behind_in program (visible_in small (owner_of small b.from)) k.chain (owner_of program e.from) e.kind
             (ap (visible_in program) (sym at_from) ∙ sym (visible_small (owner_of small b.from)))
             (subst (λ (s : ℕ). All (IsAssignIn s) k.chain) (sym set) stays.1) f.kind));
       }

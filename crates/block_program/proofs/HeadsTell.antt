@@ -14,7 +14,8 @@ use Rattle.block_program.proofs.Along.{nothing_along, nothing_open_along}
 use Rattle.block_program.proofs.Back.{back, open_back}
 use Rattle.block_program.proofs.Procs.{exit_same}
 use Rattle.block_program.proofs.Formed.{count, owner_small, visible_small}
-use Rattle.block_program.proofs.Forward.{forward, open_forward, head_at}
+use Rattle.block_program.proofs.Forward.{forward, open_forward}
+use Rattle.block_program.proofs.HeadNumbers.{head_at}
 
 module _ (program : Program) (heads : List ℕ) (small : Program) (w : IsWellFormed program) (blocks : IsBlockProgram program heads small) where
   pub maps_at : (p i : ℕ) (m : List ℕ) → i < length heads → (LevelPath program p (slice_index heads i) m ↔ LevelPath small p i m)

@@ -13,7 +13,8 @@ use Rattle.affine_prog.specs.LevelPaths.{step_map, LevelPath, opening, step, cal
 use Rattle.affine_prog.specs.OpenPaths.{OpenPath, first, enter}
 use Rattle.block_program.specs.Chains.{IsInner, Chain, here, after}
 use Rattle.block_program.specs.InnerLaws.{IsStepFrom}
-use Rattle.block_program.proofs.Edges.{own, IsCall, only_edge, chain_at, at_head}
+use Rattle.block_program.specs.EdgesInto.{assigns_of}
+use Rattle.block_program.proofs.Edges.{IsCall, only_edge, chain_at, at_head}
 use Rattle.block_program.proofs.Following.{open_step}
 
 pub same_edge : (program : Program) (u u' v : ℕ) (kind kind' : Kind) → IsInner program v → Contains program.edges (edge u v kind) → Contains program.edges (edge u' v kind')
@@ -34,7 +35,7 @@ module _ (program : Program) (u v : ℕ) (assigns : List Assign) (inner : IsInne
   level_comes p x m same (opening p' x' words m' within at row is) = absurd (inner.no_end (record { proc = p; within = within; either = inl (sym at ∙ same) }))
   level_comes p x n same (step p' t x' mine words m n' path edge_in choice is) =
       let e = same_edge program t u v (Do mine) (Do assigns) inner (subst (λ (y : ℕ). Contains program.edges (edge t y (Do mine))) same edge_in) contains in
-      let k : mine ≡ assigns = ap own e.1 in
+      let k : mine ≡ assigns = ap assigns_of e.1 in
       record { words = words; before = m; choice = rw k at choice; path = rw e.0 at path; map = is ∙ ap (λ (xs : List Assign). step_map xs words m) k }
   level_comes p x n same (call p' q t x' before words m callee n' path edge_in choice called is) =
       let e = same_edge program t u v (Call q before) (Do assigns) inner (subst (λ (y : ℕ). Contains program.edges (edge t y (Call q before))) same edge_in) contains in

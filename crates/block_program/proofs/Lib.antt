@@ -4,17 +4,22 @@ mod Procs
 mod Following
 mod Ending
 mod Along
+mod HeadNumbers
 mod Forward
+mod Sources
 mod Back
 mod Inner
+mod Staying
 mod Formed
 mod Tallied
 mod Walking
 mod Alone
 mod Placed
+mod Tables
 mod Numbering
 mod HeadsTell
 mod Building
 mod Imaged
 mod InnerModules
+mod PassedOn
 pub mod Lemmas

@@ -1,14 +1,14 @@
 -- Numbering the heads, node by node.
-use Rattle.std.proofs.Common.{◌≡◌, ℕ, ◌+◌, ◌<◌, ◌≤◌, inl, inr, List, [], ◌∷◌, ◌++◌, Contains, length, get_or, sym, subst, ◌∙◌, arith}
-use Rattle.std.specs.Prelude.{Option, None, Some, MatchOption, slice_index_or}
+use Rattle.std.proofs.Common.{◌≡◌, ℕ, ◌+◌, ◌≤◌, inl, inr, List, [], ◌∷◌, ◌++◌, Contains, length, get_or, sym, subst, ◌∙◌, arith}
+use Rattle.std.specs.Prelude.{Option, None, Some, MatchOption}
 use Rattle.std.proofs.lemmas.Bool.{cases_eq, cases_lt}
 use Rattle.std.proofs.lemmas.List.{length_push, length-append, get_or_append_left, get_or_push}
 use Rattle.std.proofs.lemmas.List.Elements.{Contains-push, Contains-push_cases, Contains-append_left, Contains-get_or}
 use Rattle.affine_prog.specs.declared.Program.{Program}
 use Rattle.block_program.specs.Chains.{IsInner, IsHead}
-use Rattle.block_program.specs.EdgesInto.{IsEdgeInto, AreEdgesIntoBelow}
 use Rattle.block_program.specs.BlockPrograms.{NumbersHeads}
 use Rattle.block_program.specs.Numbers.{AreHeadsBelow, IsNumber, AreNumbersBelow}
+use Rattle.block_program.proofs.Tables.{table_push}
 
 module _ (program : Program) (n : ℕ) (heads : List ℕ) (h : AreHeadsBelow program n heads) where
   pub heads_push : IsHead program n → AreHeadsBelow program (n + 1) (heads ++ n ∷ [])
@@ -53,20 +53,6 @@ pub heads_all : (program : Program) (n : ℕ) (heads : List ℕ) → program.nod
 heads_all program n heads past h = record {
   order = h.order;
   all = λ u. (λ c. ((h.all u).0 c).1, λ d. (h.all u).1 (let b = d.node in omega arith, d));
-}
-
--- a table of options with one more item
-module _ (P : ℕ → Option ℕ → Type 0) (n : ℕ) (table : List (Option ℕ)) (o : Option ℕ) (long : length table ≡ n) (at : (v : ℕ) → v < n → P v (slice_index_or table v None)) (here : P n o) where
-  pub table_push : (v : ℕ) → v < n + 1 → P v (slice_index_or (table ++ o ∷ []) v None)
-  table_push v below = elim (cases_eq v n) [
-    | inl same ↦ subst (λ (i : ℕ). P i (slice_index_or (table ++ o ∷ []) i None)) (sym same) (subst (P n) (sym (get_or_push table o None n long)) here)
-    | inr other ↦ let inside : v < n = omega (arith, other) in subst (P v) (sym (get_or_append_left table (o ∷ []) None v (omega arith))) (at v inside)
-  ]
-
-pub entered_push : (program : Program) (n : ℕ) (table : List (Option ℕ)) (o : Option ℕ) → MatchOption o (IsInner program n → ⊥) (IsEdgeInto program n) → AreEdgesIntoBelow program n table → AreEdgesIntoBelow program (n + 1) (table ++ o ∷ [])
-entered_push program n table o here t = record {
-  long = let l = length_push table o in let m = t.long in omega arith;
-  at = table_push (λ v x. MatchOption x (IsInner program v → ⊥) (IsEdgeInto program v)) n table o t.long t.at here;
 }
 
 number_stays : (heads more : List ℕ) (v : ℕ) (P : Type 0) (o : Option ℕ) → MatchOption o P (IsNumber heads v) → MatchOption o P (IsNumber (heads ++ more) v)

@@ -1,8 +1,15 @@
 -- The procedures of a program and of its block program.
-use Rattle.std.proofs.Common.{◌≡◌, ℕ, zero, suc, ◌<◌, List, [], ◌∷◌, length, map, slice_index, refl, ap, arith}
+use Rattle.std.proofs.Common.{◌≡◌, ℕ, zero, suc, ◌<◌, List, [], ◌∷◌, length, map, slice_index, refl, ap, ap₂, arith}
 use Rattle.std.specs.List.{AllZip}
 use Rattle.affine_prog.specs.declared.Proc.{Proc}
 use Rattle.block_program.specs.BlockPrograms.{IsBlockProc}
+
+-- the slots of the procedures
+pub sets_same : (heads : List ℕ) (ps qs : List Proc) → AllZip (IsBlockProc heads) ps qs → map (λ (proc : Proc). proc.slots) qs ≡ map (λ (proc : Proc). proc.slots) ps
+sets_same heads [] [] zip = refl
+sets_same heads [] (q ∷ qs) zip = absurd zip
+sets_same heads (p ∷ ps) [] zip = absurd zip
+sets_same heads (p ∷ ps) (q ∷ qs) zip = let h = zip.0 in ap₂ (λ (x : ℕ) (xs : List ℕ). x ∷ xs) h.slots (sets_same heads ps qs zip.1)
 
 pub slots_same : (heads : List ℕ) (ps qs : List Proc) (k : ℕ) → AllZip (IsBlockProc heads) ps qs
     → slice_index (map (λ (proc : Proc). proc.slots) qs) k ≡ slice_index (map (λ (proc : Proc). proc.slots) ps) k

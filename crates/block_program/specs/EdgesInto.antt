@@ -1,6 +1,7 @@
 -- Chains as lists of edge numbers, the last edge first.
 --
 --   assigns_of kind                  the assignments of a kind
+--   assigns_at edges k               those of edge k; none where there is no such edge
 --   assigns_behind edges path        what the edges of these numbers assign, the last number first
 --   IsEdgeInto program v k            v is inner, and edge k is its one edge
 --   AreEdgesIntoBelow program n table  the table has, below n, each inner node's one edge, and nothing for every other node

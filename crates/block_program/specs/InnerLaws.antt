@@ -3,11 +3,12 @@
 --   IsStepFrom program start u assigns v   v is what the assignments, under a choice, make of the state of an open path to u from
 --                                          the start
 --   InnerStatesFollow                      the states at an inner node are such, and no others
+--   StatesArePassedOn                      where the edge assigns nothing, they are the states before it
 --   InnerModulesFollow                     so are the modules that the states generate: what the edge makes of the module before it
 --                                          is the module at the node
 --   InnerPlacesAreFew                      the placements of the rows of that module are at most 64 for each name and the constant
 --   ChainsAreUnique                        a node has one chain, from one head
-use Rattle.std.specs.Prelude.{◌≡◌, ℕ, ◌+◌, ◌*◌, ◌≤◌, ◌↔◌, List, Contains}
+use Rattle.std.specs.Prelude.{◌≡◌, ℕ, ◌+◌, ◌*◌, ◌≤◌, ◌↔◌, List, [], Contains}
 use Rattle.row_modules.specs.Modules.{AreRows, SameModule}
 use Rattle.map_modules.specs.Matrices.{apply}
 use Rattle.affine_prog.specs.declared.Program.{Program}
@@ -31,6 +32,11 @@ abbrev pub InnerStatesFollow : Type 0
 InnerStatesFollow =
     (program : Program) (u v : ℕ) (assigns : List Assign) → IsInner program v → Contains program.edges (edge u v (Do assigns))
     → (start state : List ℕ) → (OpenPath program start v state ↔ IsStepFrom program start u assigns state)
+
+abbrev pub StatesArePassedOn : Type 0
+StatesArePassedOn =
+    (program : Program) (u v : ℕ) → IsInner program v → Contains program.edges (edge u v (Do []))
+    → (state : List ℕ) → (IsStateAt program v state ↔ IsStateAt program u state)
 
 abbrev pub InnerModulesFollow : Type 0
 InnerModulesFollow =

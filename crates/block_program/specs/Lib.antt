@@ -4,6 +4,7 @@ pub mod Laws
 pub mod HeadLaws
 pub mod Tallies
 pub mod EdgesInto
+pub mod Contractions
 pub mod Numbers
 pub mod Ends
 pub mod Pushes

@@ -9,15 +9,15 @@
 use Rattle.std.specs.Prelude.{◌≡◌, ℕ, ◌<◌, ◌↔◌, List, length, slice_index, slice_index_or, Contains, Option, None, MatchOption}
 use Rattle.std.specs.List.Sorted.{IsStrictlyIncreasing}
 use Rattle.affine_prog.specs.declared.Program.{Program}
-use Rattle.block_program.specs.declared.Blocks.{Blocks}
+use Rattle.block_program.specs.Contractions.{Contraction}
 use Rattle.block_program.specs.Chains.{IsInner, IsHead}
 use Rattle.block_program.specs.BlockPrograms.{IsBlockProgram}
 use Rattle.block_program.specs.EdgesInto.{AreEdgesInto}
 
-abbrev pub number_of : Blocks → ℕ → Option ℕ
+abbrev pub number_of : Contraction → ℕ → Option ℕ
 number_of blocks v = slice_index_or blocks.numbers v None
 
-abbrev pub edge_number_of : Blocks → ℕ → Option ℕ
+abbrev pub edge_number_of : Contraction → ℕ → Option ℕ
 edge_number_of blocks v = slice_index_or blocks.edges_into v None
 
 pub record AreHeadsBelow (program : Program) (n : ℕ) (heads : List ℕ) : Type 0 where
@@ -32,7 +32,7 @@ pub record AreNumbersBelow (program : Program) (n : ℕ) (heads : List ℕ) (tab
   pub long : length table ≡ n
   pub at : (v : ℕ) → v < n → MatchOption (slice_index_or table v None) (IsInner program v) (IsNumber heads v)
 
-pub record AreBlocks (program : Program) (blocks : Blocks) : Type 0 where
+pub record AreBlocks (program : Program) (blocks : Contraction) : Type 0 where
   pub heads : List ℕ
   pub small : IsBlockProgram program heads blocks.small
   pub numbers : AreNumbersBelow program program.nodes heads blocks.numbers

@@ -74,7 +74,6 @@ fn blocks_of(alloc: Global, program: &Program) -> Result<Blocks, AllocError>
         edges_into.as_slice(),
         numbers.as_slice(),
     )?;
-    let _nodes = program.nodes;
     let small = Program {
         width: program.width,
         registers: program.registers,

@@ -1,6 +1,6 @@
 //! Which nodes are inner.
 
-ghost use Rattle.std.specs.Prelude.{◌≡◌, ℕ, ◌<◌, ◌≤◌, ◌↔◌, length, slice_index_or, IsTrue, MatchOption, IfOk};
+ghost use Rattle.std.specs.Prelude.{◌≡◌, ℕ, ◌^◌, ◌<◌, ◌↔◌, length, slice_index_or, IsTrue, MatchOption, IfOk};
 ghost use Rattle.affine_prog.specs.Programs.{IsWellFormed};
 ghost use Rattle.affine_prog.specs.declared.Kind.TheVariants.{Do};
 ghost use Rattle.block_program.specs.declared.Tally.TheVariants.{One};
@@ -107,7 +107,7 @@ pub(crate) fn number_heads(
     requires { AreEdgesInto program.now edges_into.now }
     ensures heads { IfOk result (λ r. NumbersHeads program.now r.0.items) }
     ensures numbers { IfOk result (λ r. AreNumbersBelow program.now program.now.nodes r.0.items r.1.items) }
-    ensures count { IfOk result (λ r. length r.0.items ≤ program.now.nodes) }
+    ensures count { IfOk result (λ r. length r.0.items < 2 ^ 32) }
 {
     let mut heads = Vec::new(alloc);
     let mut numbers = Vec::new(alloc);

@@ -1,7 +1,7 @@
 //! What holds of each block program. Each function runs nothing; its contract is a law.
 
 ghost use Rattle.block_program.specs.HeadLaws.{StatesAlike, ReachedAlike, HoldsAlike, ReturnsAlike, CertifiedAlike, ExitsAlike};
-ghost use Rattle.block_program.specs.InnerLaws.{InnerStatesFollow, InnerModulesFollow, InnerPlacesAreFew, ChainsAreUnique};
+ghost use Rattle.block_program.specs.InnerLaws.{InnerStatesFollow, StatesArePassedOn, InnerModulesFollow, InnerPlacesAreFew, ChainsAreUnique};
 ghost use Rattle.block_program.specs.Laws.{LevelPathsAtHeads, LevelPathsAlongChains, OpenPathsAtHeads, OpenPathsAlongChains, BlockProgramsAreWellFormed};
 
 /// At a head the maps of the level paths are those in the block program; behind a chain its assignments follow.
@@ -25,6 +25,7 @@ pub fn block_programs_are_formed()
 /// are placed in a basis of that module; and a node has one chain from one head.
 pub fn inner_nodes_follow()
     ensures states { InnerStatesFollow }
+    ensures passed_on { StatesArePassedOn }
     ensures modules { InnerModulesFollow }
     ensures few { InnerPlacesAreFew }
     ensures chains { ChainsAreUnique }

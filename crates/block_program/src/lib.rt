@@ -36,6 +36,7 @@ pub use laws::{
 };
 pub use pushes::push;
 use sqlite_items::Items;
+use std::marker::Model;
 
 /// The block program of a program, and what stands for each of the program's nodes.
 #[derive(Debug, Drop)]
@@ -45,6 +46,14 @@ pub struct Blocks {
     numbers: Items<Option<u32>>,
     /// For each node the number of its one edge, where it is inner.
     edges_into: Items<Option<u32>>,
+}
+
+impl Model for Blocks {
+    ghost use Rattle.block_program.specs.Contractions.{Contraction};
+
+    ghost Value = { Contraction };
+
+    ghost view = { λ b. record { small = b.small; numbers = b.numbers; edges_into = b.edges_into } };
 }
 
 impl Blocks {

@@ -1,6 +1,6 @@
 use Rattle.std.proofs.Common.{◌+◌, sym, subst, arith}
 use Rattle.block_program.specs.EdgesInto.{AreEdgesIntoBelow}
-use Rattle.block_program.proofs.Numbering.{entered_push}
+use Rattle.block_program.proofs.Tables.{entered_push}
 use Rattle.block_program.proofs.Ending.{end_told}
 use Rattle.block_program.proofs.inner_nodes.inner_edges.Goals as goal
 

@@ -1,0 +1,52 @@
+-- What is told of the states at a node is told of a node to which they are passed on.
+use Rattle.std.proofs.Common.{◌≡◌, ℕ, ◌<◌, List, [], Contains, ap, subst, arith}
+use Rattle.std.proofs.lemmas.List.Elements.{All-contains}
+use Rattle.row_modules.specs.Modules.{SameModule}
+use Rattle.row_modules.specs.Positions.{with_constant}
+use Rattle.row_modules.proofs.Laws.{same_with, same_members}
+use Rattle.lead_basis.proofs.Laws.{turned}
+use Rattle.affine_prog.specs.declared.Program.{Program}
+use Rattle.affine_prog.specs.declared.Kind.TheVariants.{Do}
+use Rattle.affine_prog.specs.Programs.{edge, visible_in, IsWellFormed, IsEdgeOf}
+use Rattle.affine_prog.specs.Spans.{IsStateAt, AreReached}
+use Rattle.block_program.specs.Contractions.{Contraction}
+use Rattle.block_program.specs.Numbers.{AreBlocks}
+use Rattle.block_program.proofs.Lemmas.{passed_on}
+use Rattle.report_text.specs.declared.points.PointState.{PointState}
+use Rattle.report_text.specs.declared.points.PointState.TheVariants.{Unreached, Rows}
+use Rattle.analyser_core.specs.States.{HasStates, states_in, AreInnerStates}
+use Rattle.analyser_core.specs.Told.{told_positions, Relates, PassesOn}
+use Rattle.analyser_core.proofs.NodeStates.{inner_at, states_known}
+
+-- modules that are one have the same relations
+related_alike : (set : ℕ) (xs ys : List (List ℕ)) → SameModule 17 (Contains xs) (Contains ys) → (state : PointState) → Relates set xs state → Relates set ys state
+related_alike set xs ys same Unreached zero = λ v m. zero v (same.back v m)
+related_alike set xs ys same (Rows rows) r =
+    let g = r.generating in
+    record {
+      some = λ zero. r.some (λ v m. zero v (same.there v m));
+      basis = r.basis;
+      reduced = r.reduced;
+      generating = record {
+        inside = λ a h. let n = g.inside a h in record { on_visible = n.on_visible; vanishes = λ v m. n.vanishes v (same.back v m) };
+        all = λ a h. g.all a (record { on_visible = h.on_visible; vanishes = λ v m. h.vanishes v (same.there v m) });
+      };
+    }
+
+module _ (program : Program) (formed : IsWellFormed program) (blocks : Contraction) (b : AreBlocks program blocks) (reached inner : List (List (List ℕ)))
+    (heads : AreReached blocks.small reached) (states : AreInnerStates program inner) where
+  pub known_at : (v : ℕ) → v < program.nodes → HasStates program v (states_in blocks reached inner v)
+  known_at v below = states_known program formed blocks b reached inner heads v below (λ none. states.exact v below (inner_at program formed blocks b v below none))
+
+  pub passed_related : (u v : ℕ) → v < program.nodes → PassesOn program u v → (state : PointState) → Relates (told_positions program u) (states_in blocks reached inner u) state
+      → Relates (told_positions program v) (states_in blocks reached inner v) state
+  passed_related u v below p state related =
+      let before : u < program.nodes = omega (arith, p.below, below) in
+      let e = All-contains (IsEdgeOf program) program.edges (edge u v (Do [])) formed.edges p.along in
+      let positions : told_positions program u ≡ told_positions program v = ap (λ (q : ℕ). with_constant (visible_in program q)) e.one_owner in
+      let moved : SameModule 17 (IsStateAt program u) (IsStateAt program v) =
+      same_members 17 (IsStateAt program u) (IsStateAt program v) (λ s. (passed_on program u v p.inner p.along s).1) (λ s. (passed_on program u v p.inner p.along s).0) in
+      let same = same_with 17 _ (IsStateAt program u) _ (known_at u before)
+      (same_with 17 (IsStateAt program u) (IsStateAt program v) _ moved (turned 17 _ (IsStateAt program v) (known_at v below))) in
+      subst (λ (set : ℕ). Relates set (states_in blocks reached inner v) state) positions
+      (related_alike (told_positions program u) (states_in blocks reached inner u) (states_in blocks reached inner v) same state related)

@@ -1,0 +1,105 @@
+//! What is told of the states at a point.
+
+ghost use Rattle.std.specs.Prelude.{◌≡◌, ◌<◌, IsTrue, IfOk, IfSome, length};
+ghost use Rattle.row_modules.specs.Positions.{has};
+ghost use Rattle.affine_prog.specs.Programs.{IsWellFormed};
+ghost use Rattle.affine_prog.specs.Spans.{AreReached};
+ghost use Rattle.block_program.specs.Numbers.{AreBlocks};
+ghost use Rattle.analyser_core.specs.States.{states_in, AreInnerStates};
+ghost use Rattle.analyser_core.specs.Told.{told_positions, Relates, AreRelated, PassesOn};
+
+use crate::states::states_at;
+use affine_prog::{Kind, Program};
+use block_program::Blocks;
+use lead_basis::{Basis, Memory};
+use reach_modules::Reach;
+use relation_solver::{Relations, solve};
+use report_text::{PointRows, PointState};
+use sqlite_items::Items;
+use std::alloc::Global;
+
+/// The relations of the states at a node, behind what is told of all smaller nodes. Where an edge that assigns nothing
+/// passes the states of another node on, what is told of that one is told again, and else the relations are solved.
+pub(crate) fn state_at(
+    alloc: Global,
+    program: &Program,
+    blocks: &Blocks,
+    reached: &Reach,
+    inner: &[Basis<17>],
+    told: &[PointRows],
+    node: u32,
+) -> Result<PointState, Memory>
+    requires formed { IsWellFormed program.now }
+    requires blocks { AreBlocks program.now blocks.now }
+    requires reached { AreReached blocks.now.small reached.now }
+    requires inner { AreInnerStates program.now inner.now }
+    requires node { node < program.now.nodes }
+    requires count { length told.now ≡ node }
+    requires told { AreRelated program.now blocks.now reached.now inner.now told.now }
+    ensures { IfOk result (Relates (told_positions program.now node) (states_in blocks.now reached.now inner.now node)) }
+{
+    match passed_from(program, blocks, node) {
+        Some(from) => copy_of(alloc, &told[from as usize].state),
+        None => {
+            let states = states_at(blocks, reached, inner, node);
+            state_of(alloc, states, visible_at(program, node))
+        }
+    }
+}
+
+// The node whose states are passed on to a node as they are, by its one edge.
+fn passed_from(program: &Program, blocks: &Blocks, node: u32) -> Option<u32>
+    requires formed { IsWellFormed program.now }
+    requires blocks { AreBlocks program.now blocks.now }
+    requires node { node < program.now.nodes }
+    ensures { IfSome result (λ from. PassesOn program.now from node) }
+{
+    if blocks.node_of(node).is_some() {
+        return None;
+    }
+    let edge = &program.edges.as_slice()[blocks.edge_into(node) as usize];
+    match &edge.kind {
+        Kind::Do(assigns) if assigns.is_empty() => Some(edge.from),
+        _ => None,
+    }
+}
+
+// The positions that are visible at a node, and the constant's.
+fn visible_at(program: &Program, node: u32) -> u32
+    requires formed { IsWellFormed program.now }
+    requires node { node < program.now.nodes }
+    ensures { result ≡ told_positions program.now node }
+{
+    let owner = program.proc_of(node) as usize;
+    let slots = program.procs.as_slice()[owner].slots;
+    u32::from(program.registers | slots) | 1 << 16
+}
+
+// The relations of the states, where there are states.
+fn state_of(alloc: Global, states: &Basis<17>, visible: u32) -> Result<PointState, Memory>
+    requires { IsTrue (has visible 16) }
+    ensures { IfOk result (Relates visible states.now) }
+{
+    match solve::relations(alloc, states, visible)? {
+        Relations::Unreached => Ok(PointState::Unreached),
+        Relations::Rows(basis) => {
+            basis.known();
+            match Vec::from_slice(alloc, basis.rows()) {
+                Ok(rows) => Ok(PointState::Rows(Items::from_vec(rows))),
+                Err(_) => Err(Memory),
+            }
+        }
+    }
+}
+
+fn copy_of(alloc: Global, state: &PointState) -> Result<PointState, Memory>
+    ensures { IfOk result (λ copy. copy ≡ state.now) }
+{
+    match state {
+        PointState::Unreached => Ok(PointState::Unreached),
+        PointState::Rows(rows) => match Items::from_slice(alloc, rows.as_slice()) {
+            Ok(rows) => Ok(PointState::Rows(rows)),
+            Err(_) => Err(Memory),
+        },
+    }
+}
