@@ -6,7 +6,7 @@ use Rattle.std.proofs.lemmas.List.{take_more, take-append-drop, get_or-map, leng
 use Rattle.std.proofs.lemmas.List.Elements.{All-push}
 use Rattle.std.proofs.lemmas.List.Quantifiers.{all_pairs_push}
 use Rattle.report_text.specs.declared.names.Name.{Name}
-use Rattle.affine_lift.specs.Tracking.{texts_of, AreNames, Breaks, IsFurther, IsIn, IsItemRefusal, Names}
+use Rattle.affine_lift.specs.Tracking.{texts_of, AreNames, Breaks, IsFurther, IsIn, IsItemRefusal, Names, Scope}
 use Rattle.affine_lift.specs.declared.refusal.TrackRefusal.{TrackRefusal}
 
 text_at : (items : List (Bor (List ℕ))) (i : ℕ) (d : Bor (List ℕ)) → i < length items → get_or (texts_of items) i [] ≡ (get_or items i d).now
@@ -32,27 +32,27 @@ at_no_place names name absent k e below is = absent (k, below, get_or_same names
     get_or_same (x ∷ xs) zero a b under = refl
     get_or_same (x ∷ xs) (suc j) a b under = get_or_same xs j a b (omega arith)
 
-names_push : (procedures : List ℕ) (items : List (List ℕ)) (names : List Name) (item : List ℕ) (name : Name) → AreNames procedures items names
-    → IsFurther procedures names item name → AreNames procedures (items ++ item ∷ []) (names ++ name ∷ [])
-names_push procedures items names item name are further = record {
-  named = all_zip_push Names items names item name are.named further.named;
-  within = All-push (IsIn procedures) names name are.within further.within;
+names_push : (scope : Scope) (items : List (List ℕ)) (names : List Name) (item : List ℕ) (name : Name) → AreNames scope items names
+    → IsFurther scope names item name → AreNames scope (items ++ item ∷ []) (names ++ name ∷ [])
+names_push scope items names item name are further = record {
+  named = all_zip_push (Names scope.symbols) items names item name are.named further.named;
+  within = All-push (IsIn scope.procedures) names name are.within further.within;
   apart = all_pairs_push (λ a b. a ≢ b) names name are.apart (at_no_place names name further.other);
 }
 
-pub names_more : (procedures : List ℕ) (items : List (Bor (List ℕ))) (i : ℕ) (d : Bor (List ℕ)) (names : List Name) (name : Name) → i < length items
-    → AreNames procedures (take i (texts_of items)) names → IsFurther procedures names (get_or items i d).now name
-    → AreNames procedures (take (i + 1) (texts_of items)) (names ++ name ∷ [])
-names_more procedures items i d names name below are further =
+pub names_more : (scope : Scope) (items : List (Bor (List ℕ))) (i : ℕ) (d : Bor (List ℕ)) (names : List Name) (name : Name) → i < length items
+    → AreNames scope (take i (texts_of items)) names → IsFurther scope names (get_or items i d).now name
+    → AreNames scope (take (i + 1) (texts_of items)) (names ++ name ∷ [])
+names_more scope items i d names name below are further =
     let within : i < length (texts_of items) = omega (arith, length-texts items) in
     rw (take_more (texts_of items) i [] within, text_at items i d below)
-    (names_push procedures (take i (texts_of items)) names (get_or items i d).now name are further)
+    (names_push scope (take i (texts_of items)) names (get_or items i d).now name are further)
 
 -- the item at place i breaks a rule, behind those before it
-pub refused_at : (procedures : List ℕ) (items : List (Bor (List ℕ))) (i : ℕ) (d : Bor (List ℕ)) (names : List Name) (refusal : TrackRefusal)
-    → i < length items → AreNames procedures (take i (texts_of items)) names
-    → Breaks procedures names (get_or items i d).now (i + 1) refusal → IsItemRefusal procedures (texts_of items) refusal
-refused_at procedures items i d names refusal below are breaks =
+pub refused_at : (scope : Scope) (items : List (Bor (List ℕ))) (i : ℕ) (d : Bor (List ℕ)) (names : List Name) (refusal : TrackRefusal)
+    → i < length items → AreNames scope (take i (texts_of items)) names
+    → Breaks scope names (get_or items i d).now (i + 1) refusal → IsItemRefusal scope (texts_of items) refusal
+refused_at scope items i d names refusal below are breaks =
     let within : i < length (texts_of items) = omega (arith, length-texts items) in
     let taken : length (take i (texts_of items)) ≡ i = omega (arith, length-take i (texts_of items), length-texts items) in
     record {

@@ -15,4 +15,5 @@ pub mod StoresWrite
 mod SlotsWritten
 mod VisibleSeen
 pub mod OneProgram
+mod OneReading
 pub mod Cited

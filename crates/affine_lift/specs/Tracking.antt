@@ -4,30 +4,38 @@
 --   is_comma c, is_colon c              the byte is a comma, a colon
 --   items_of text                       the parts of the text between its commas
 --   texts_of items                      the bytes of each item
+--   Scope                               what slots may be named by: the symbols of a file, and its procedures
+--   scope_of symbols procedures         these
 --   IsAddress text p                    the text is `0x` and 1 to 16 hexadecimal digits of either case, the numeral of p
+--   value_of symbols text               the value of the first symbol of this name
+--   IsPlace symbols text p              the text is the address p, or else names it by a symbol
+--   HasColon item                       the item has a colon
 --   IsDistance text n                   the text is `-` and the numeral of n in decimal, without leading zeros
---   IsSlotText item p rest              before the item's first colon stands the address p, and behind it the rest
---   Names item name                     the item names this register, or this slot
---   HasName item                        it names some register but zero, or an address stands before its first colon
+--   IsSlotText symbols item p rest      before the item's first colon stands the place p, and behind it the rest
+--   Names symbols item name             the item has no colon and names this register; or it has one and names this slot
+--   HasName symbols item                it has no colon and names some register but zero; or it has one, and a place stands
+--                                       before the first
 --   IsIn procedures name                where the name is a slot, its procedure is one of these
---   AreNames procedures items names     each item names the name at its place, which is in the procedures, and none comes
+--   AreNames scope items names          each item names the name at its place, which is in the procedures, and none comes
 --                                       twice
---   IsTracked procedures text names     the text is a list of 1 to 16 items, which are these names
---   Breaks procedures names item place refusal
+--   IsTracked scope text names          the text is a list of 1 to 16 items, which are these names
+--   Breaks scope names item place refusal
 --                                       the item at this place, behind items with these names, breaks a rule: the first one
 --                                       that it breaks
---   IsItemRefusal procedures items refusal
+--   IsItemRefusal scope items refusal
 --                                       the first item that is no further name breaks a rule; places are counted from 1
---   IsFurther procedures names item name
+--   IsFurther scope names item name
 --                                       the item is a further name, behind items with these names
---   IsNamesRefusal procedures items refusal
+--   IsNamesRefusal scope items refusal
 --                                       an item breaks a rule, or memory is wanting
---   IsTrackRefusal procedures text refusal
+--   IsTrackRefusal scope text refusal
 --                                       the first cause for which the text is no such list; want of memory is free
-use Rattle.std.specs.Prelude.{◌≡◌, ◌≢◌, ℕ, Bool, ◌+◌, ◌<◌, ◌≤◌, ◌==◌, List, [], ◌∷◌, ◌++◌, length, map, All, AllPairs, Contains, Some, slice_index}
+use Rattle.std.specs.Prelude.{◌≡◌, ◌≢◌, ℕ, Bool, ◌+◌, ◌<◌, ◌≤◌, ◌==◌, List, [], ◌∷◌, ◌++◌, length, map, All, AllPairs, Contains, Option, Some, find, option_map, slice_index}
 use denote.Ref.{Bor}
 use Rattle.std.specs.List.{after_first, before_first, slice_split, AllZip}
 use Rattle.std.specs.Str.Parse.{IsNumeral, digits_value}
+use Rattle.std.specs.Str.{bytes_eq}
+use Rattle.elf_image.specs.declared.symbol.Symbol.{Symbol}
 use Rattle.rv_decode.specs.Registers.{register_of}
 use Rattle.report_text.specs.Names.{IsAllowedBelow}
 use Rattle.report_text.specs.declared.names.Name.{Name}
@@ -44,12 +52,26 @@ items_of text = slice_split is_comma text
 abbrev pub texts_of : List (Bor (List ℕ)) → List (List ℕ)
 texts_of items = map (λ item. item.now) items
 
+pub record Scope : Type 0 where
+  pub symbols : List Symbol
+  pub procedures : List ℕ
+
+abbrev pub scope_of : List Symbol → List ℕ → Scope
+scope_of symbols procedures = record { symbols = symbols; procedures = procedures }
+
 pub record IsAddress (text : List ℕ) (p : ℕ) : Type 0 where
   pub digits : List ℕ
   pub text_is : text ≡ 48 ∷ 120 ∷ digits
   pub numeral : IsNumeral 16 digits
   pub short : length digits ≤ 16
   pub value : p ≡ digits_value 16 digits
+
+abbrev pub value_of : List Symbol → List ℕ → Option ℕ
+value_of symbols text = option_map (λ s. s.value) (find (λ s. bytes_eq s.name text) symbols)
+
+pub data IsPlace (symbols : List Symbol) (text : List ℕ) (p : ℕ) : Type 0 where
+  address : IsAddress text p → IsPlace symbols text p
+  symbol : ((q : ℕ) → IsAddress text q → ⊥) → value_of symbols text ≡ Some p → IsPlace symbols text p
 
 pub record IsDistance (text : List ℕ) (n : ℕ) : Type 0 where
   pub digits : List ℕ
@@ -61,63 +83,67 @@ pub record IsDistance (text : List ℕ) (n : ℕ) : Type 0 where
 abbrev pub is_colon : ℕ → Bool
 is_colon c = c == 58
 
-pub record IsSlotText (item : List ℕ) (p : ℕ) (rest : List ℕ) : Type 0 where
-  pub colon : Contains item 58
-  pub address : IsAddress (before_first is_colon item) p
+abbrev pub HasColon : List ℕ → Type 0
+HasColon item = Contains item 58
+
+pub record IsSlotText (symbols : List Symbol) (item : List ℕ) (p : ℕ) (rest : List ℕ) : Type 0 where
+  pub colon : HasColon item
+  pub place : IsPlace symbols (before_first is_colon item) p
   pub rest_is : rest ≡ after_first is_colon item
 
-pub data Names (item : List ℕ) (name : Name) : Type 0 where
-  register : (r : ℕ) → register_of item ≡ Some r → r ≢ 0 → name ≡ Register r → Names item name
-  slot : (p n : ℕ) (rest : List ℕ) → IsSlotText item p rest → IsDistance rest n → IsAllowedBelow n → name ≡ Slot p n
-      → Names item name
+pub data Names (symbols : List Symbol) (item : List ℕ) (name : Name) : Type 0 where
+  register : (r : ℕ) → (HasColon item → ⊥) → register_of item ≡ Some r → r ≢ 0 → name ≡ Register r → Names symbols item name
+  slot : (p n : ℕ) (rest : List ℕ) → IsSlotText symbols item p rest → IsDistance rest n → IsAllowedBelow n → name ≡ Slot p n
+      → Names symbols item name
 
-pub data HasName (item : List ℕ) : Type 0 where
-  by_register : (r : ℕ) → register_of item ≡ Some r → r ≢ 0 → HasName item
-  by_address : (p : ℕ) (rest : List ℕ) → IsSlotText item p rest → HasName item
+pub data HasName (symbols : List Symbol) (item : List ℕ) : Type 0 where
+  by_register : (r : ℕ) → (HasColon item → ⊥) → register_of item ≡ Some r → r ≢ 0 → HasName symbols item
+  by_place : (p : ℕ) (rest : List ℕ) → IsSlotText symbols item p rest → HasName symbols item
 
 abbrev pub IsIn : List ℕ → Name → Type 0
 IsIn procedures (Register r) = Unit {0}
 IsIn procedures (Slot p below) = Contains procedures p
 
-pub record AreNames (procedures : List ℕ) (items : List (List ℕ)) (names : List Name) : Type 0 where
-  pub named : AllZip Names items names
-  pub within : All (IsIn procedures) names
+pub record AreNames (scope : Scope) (items : List (List ℕ)) (names : List Name) : Type 0 where
+  pub named : AllZip (Names scope.symbols) items names
+  pub within : All (IsIn scope.procedures) names
   pub apart : AllPairs (λ a b. a ≢ b) names
 
-pub record IsTracked (procedures text : List ℕ) (names : List Name) : Type 0 where
+pub record IsTracked (scope : Scope) (text : List ℕ) (names : List Name) : Type 0 where
   pub some : text ≢ []
   pub few : length (items_of text) ≤ 16
-  pub names_are : AreNames procedures (items_of text) names
+  pub names_are : AreNames scope (items_of text) names
 
-pub data Breaks (procedures : List ℕ) (names : List Name) (item : List ℕ) (place : ℕ) (refusal : TrackRefusal) : Type 0 where
-  unknown_name : (HasName item → ⊥) → refusal ≡ UnknownName place → Breaks procedures names item place refusal
-  bad_slot : HasName item → ((name : Name) → Names item name → ⊥) → refusal ≡ BadSlot place → Breaks procedures names item place refusal
-  no_such_procedure : (name : Name) → Names item name → (IsIn procedures name → ⊥) → refusal ≡ NoSuchProcedure place
-      → Breaks procedures names item place refusal
-  repeated : (name : Name) → Names item name → IsIn procedures name → Contains names name → refusal ≡ Repeated place
-      → Breaks procedures names item place refusal
+pub data Breaks (scope : Scope) (names : List Name) (item : List ℕ) (place : ℕ) (refusal : TrackRefusal) : Type 0 where
+  unknown_name : (HasName scope.symbols item → ⊥) → refusal ≡ UnknownName place → Breaks scope names item place refusal
+  bad_slot : HasName scope.symbols item → ((name : Name) → Names scope.symbols item name → ⊥) → refusal ≡ BadSlot place
+      → Breaks scope names item place refusal
+  no_such_procedure : (name : Name) → Names scope.symbols item name → (IsIn scope.procedures name → ⊥)
+      → refusal ≡ NoSuchProcedure place → Breaks scope names item place refusal
+  repeated : (name : Name) → Names scope.symbols item name → IsIn scope.procedures name → Contains names name
+      → refusal ≡ Repeated place → Breaks scope names item place refusal
 
-pub record IsItemRefusal (procedures : List ℕ) (items : List (List ℕ)) (refusal : TrackRefusal) : Type 0 where
+pub record IsItemRefusal (scope : Scope) (items : List (List ℕ)) (refusal : TrackRefusal) : Type 0 where
   pub front : List (List ℕ)
   pub names : List Name
   pub item : List ℕ
   pub rest : List (List ℕ)
   pub split : items ≡ front ++ item ∷ rest
-  pub names_are : AreNames procedures front names
-  pub breaks : Breaks procedures names item (length front + 1) refusal
+  pub names_are : AreNames scope front names
+  pub breaks : Breaks scope names item (length front + 1) refusal
 
-pub record IsFurther (procedures : List ℕ) (names : List Name) (item : List ℕ) (name : Name) : Type 0 where
-  pub named : Names item name
-  pub within : IsIn procedures name
+pub record IsFurther (scope : Scope) (names : List Name) (item : List ℕ) (name : Name) : Type 0 where
+  pub named : Names scope.symbols item name
+  pub within : IsIn scope.procedures name
   pub other : Contains names name → ⊥
 
-pub data IsNamesRefusal (procedures : List ℕ) (items : List (List ℕ)) (refusal : TrackRefusal) : Type 0 where
-  item : IsItemRefusal procedures items refusal → IsNamesRefusal procedures items refusal
-  no_memory : refusal ≡ Memory → IsNamesRefusal procedures items refusal
+pub data IsNamesRefusal (scope : Scope) (items : List (List ℕ)) (refusal : TrackRefusal) : Type 0 where
+  item : IsItemRefusal scope items refusal → IsNamesRefusal scope items refusal
+  no_memory : refusal ≡ Memory → IsNamesRefusal scope items refusal
 
-pub data IsTrackRefusal (procedures text : List ℕ) (refusal : TrackRefusal) : Type 0 where
-  empty : text ≡ [] → refusal ≡ Empty → IsTrackRefusal procedures text refusal
-  too_many : text ≢ [] → 16 < length (items_of text) → refusal ≡ TooMany 16 → IsTrackRefusal procedures text refusal
-  bad_item : text ≢ [] → length (items_of text) ≤ 16 → IsItemRefusal procedures (items_of text) refusal
-      → IsTrackRefusal procedures text refusal
-  memory : refusal ≡ Memory → IsTrackRefusal procedures text refusal
+pub data IsTrackRefusal (scope : Scope) (text : List ℕ) (refusal : TrackRefusal) : Type 0 where
+  empty : text ≡ [] → refusal ≡ Empty → IsTrackRefusal scope text refusal
+  too_many : text ≢ [] → 16 < length (items_of text) → refusal ≡ TooMany 16 → IsTrackRefusal scope text refusal
+  bad_item : text ≢ [] → length (items_of text) ≤ 16 → IsItemRefusal scope (items_of text) refusal
+      → IsTrackRefusal scope text refusal
+  memory : refusal ≡ Memory → IsTrackRefusal scope text refusal

@@ -9,6 +9,9 @@ ghost use Rattle.flow_points.specs.declared.code_points.CodePoint.{CodePoint};
 ghost use Rattle.report_text.specs.Names.{IsSeenAt};
 ghost use Rattle.report_text.specs.declared.names.Name.{Name};
 ghost use Rattle.affine_lift.specs.Lifting.{IsLifted};
+ghost use Rattle.affine_lift.specs.Tracking.{IsTracked, IsTrackRefusal, Scope};
+ghost use Rattle.affine_lift.specs.declared.refusal.TrackRefusal.{TrackRefusal};
+ghost use Rattle.affine_lift.specs.declared.refusal.TrackRefusal.TheVariants.{Memory};
 
 /// What is visible at the node of a point are the positions of the names that are seen in the point's procedure.
 pub fn visible_names_are_seen()
@@ -21,4 +24,11 @@ pub fn visible_names_are_seen()
 pub fn programs_are_one()
     ensures { (points : FlowPoints) (names : List Name) (first second : Program) → HasCode points → IsLifted points names first →
         IsLifted points names second → first ≡ second }
+{}
+
+/// A list has one reading, and one that has a reading is refused for want of memory alone.
+pub fn lists_are_read_in_one_way()
+    ensures names { (scope : Scope) (text : List ℕ) (a b : List Name) → IsTracked scope text a → IsTracked scope text b → a ≡ b }
+    ensures refused { (scope : Scope) (text : List ℕ) (names : List Name) (refusal : TrackRefusal) → IsTracked scope text names →
+        IsTrackRefusal scope text refusal → refusal ≡ Memory }
 {}

@@ -4,12 +4,14 @@ ghost use Rattle.std.specs.Prelude.{◌≡◌, ◌≢◌, ◌==◌, ◌↔◌, �
 ghost use Rattle.std.specs.Option.{SomeIff};
 ghost use Rattle.std.specs.List.{after_first, before_first};
 ghost use Rattle.std.specs.Str.Parse.{IsNumeral, digits_value};
+ghost use Rattle.std.specs.Str.{bytes_eq};
 ghost use Rattle.rv_decode.specs.Registers.{register_of};
 ghost use Rattle.report_text.specs.Names.{IsAllowedBelow, IsName};
 ghost use Rattle.report_text.specs.declared.names.Name.{Name};
-ghost use Rattle.affine_lift.specs.Tracking.{is_colon, items_of, texts_of, AreNames, Breaks, HasName, IsAddress, IsDistance, IsFurther, IsIn, IsNamesRefusal, IsSlotText, IsTracked, IsTrackRefusal, Names};
+ghost use Rattle.affine_lift.specs.Tracking.{is_colon, items_of, HasColon, texts_of, AreNames, Breaks, HasName, IsAddress, IsDistance, IsFurther, IsIn, IsNamesRefusal, IsPlace, IsSlotText, IsTracked, IsTrackRefusal, Names, scope_of, value_of};
 
 use crate::refusal::TrackRefusal;
+use elf_image::{Image, Symbol};
 use flow_points::Points;
 use report_text::{Name, Tracked};
 use rv_decode::read_register;
@@ -17,8 +19,14 @@ use sqlite_items::Items;
 use std::alloc::{AllocError, Global};
 
 /// The names of a list, in order, or the first cause for which the text is no list.
-pub fn read_tracked(alloc: Global, text: &str, points: &Points) -> Result<Tracked, TrackRefusal>
-    ensures { MatchResult result (λ tracked. IsTracked points.now.procedures text.now tracked.names) (IsTrackRefusal points.now.procedures text.now) }
+pub fn read_tracked(
+    alloc: Global,
+    text: &str,
+    image: &Image,
+    points: &Points,
+) -> Result<Tracked, TrackRefusal>
+    ensures { MatchResult result (λ tracked. IsTracked (scope_of image.now.symbols points.now.procedures) text.now tracked.names)
+        (IsTrackRefusal (scope_of image.now.symbols points.now.procedures) text.now) }
 {
     if text.is_empty() {
         return Err(TrackRefusal::Empty);
@@ -27,7 +35,7 @@ pub fn read_tracked(alloc: Global, text: &str, points: &Points) -> Result<Tracke
     if items.len() > 16 {
         return Err(TrackRefusal::TooMany(16));
     }
-    let names = names_of(alloc, &items, points.procedures())?;
+    let names = names_of(alloc, &items, image.symbols.as_slice(), points.procedures())?;
     Ok(Tracked { names })
 }
 
@@ -38,14 +46,20 @@ fn items_between_commas(alloc: Global, list: &str) -> Result<Vec<&str>, AllocErr
 }
 
 // The names of the items, or the first item that is no further name.
-fn names_of(alloc: Global, items: &[&str], procedures: &[u64]) -> Result<Items<Name>, TrackRefusal>
+fn names_of(
+    alloc: Global,
+    items: &[&str],
+    symbols: &[Symbol],
+    procedures: &[u64],
+) -> Result<Items<Name>, TrackRefusal>
     requires { length items.now ≤ 16 }
-    ensures names { MatchResult result (AreNames procedures.now (texts_of items.now)) (IsNamesRefusal procedures.now (texts_of items.now)) }
+    ensures names { MatchResult result (AreNames (scope_of symbols.now procedures.now) (texts_of items.now))
+        (IsNamesRefusal (scope_of symbols.now procedures.now) (texts_of items.now)) }
     ensures allowed { IfOk result (All IsName) }
 {
     let mut names = Items::new(alloc);
     for (i, item) in items.iter().enumerate() {
-        match further_name(item, i as u64 + 1, procedures, names.as_slice()) {
+        match further_name(item, i as u64 + 1, symbols, procedures, names.as_slice()) {
             Ok(name) => names.push(name)?,
             Err(refusal) => return Err(refusal),
         }
@@ -57,13 +71,15 @@ fn names_of(alloc: Global, items: &[&str], procedures: &[u64]) -> Result<Items<N
 fn further_name(
     item: &str,
     place: u64,
+    symbols: &[Symbol],
     procedures: &[u64],
     names: &[Name],
 ) -> Result<Name, TrackRefusal>
-    ensures name { MatchResult result (IsFurther procedures.now names.now item.now) (Breaks procedures.now names.now item.now place) }
+    ensures name { MatchResult result (IsFurther (scope_of symbols.now procedures.now) names.now item.now)
+        (Breaks (scope_of symbols.now procedures.now) names.now item.now place) }
     ensures allowed { IfOk result IsName }
 {
-    let name = match name_of(item, place) {
+    let name = match name_of(item, place, symbols) {
         Ok(name) => name,
         Err(refusal) => return Err(refusal),
     };
@@ -92,15 +108,19 @@ fn is_listed(names: &[Name], name: Name) -> bool
 }
 
 // The name that the item at this place is.
-fn name_of(item: &str, place: u64) -> Result<Name, TrackRefusal>
-    ensures named { IfOk result (Names item.now) }
+fn name_of(item: &str, place: u64, symbols: &[Symbol]) -> Result<Name, TrackRefusal>
+    ensures named { IfOk result (Names symbols.now item.now) }
     ensures allowed { IfOk result IsName }
-    ensures refused { IfErr result (λ refusal. (procedures : List ℕ) (names : List Name) → Breaks procedures names item.now place refusal) }
+    ensures refused { IfErr result (λ refusal. (procedures : List ℕ) (names : List Name) →
+        Breaks (scope_of symbols.now procedures) names item.now place refusal) }
 {
-    if let Some(register) = register_named(item) {
-        return Ok(Name::Register(register));
-    }
-    let Some((proc_entry, rest)) = slot_text(item) else {
+    let Some((before, rest)) = parts(item) else {
+        return match register_named(item) {
+            Some(register) => Ok(Name::Register(register)),
+            None => Err(TrackRefusal::UnknownName(place)),
+        };
+    };
+    let Some(proc_entry) = place_of(before, symbols) else {
         return Err(TrackRefusal::UnknownName(place));
     };
     match distance_of(rest) {
@@ -119,25 +139,36 @@ fn register_named(item: &str) -> Option<u8>
     }
 }
 
-// The address before the first colon of an item, and what stands behind that.
-fn slot_text(item: &str) -> Option<(u64, &str)>
-    ensures { MatchOption result ((p : ℕ) (rest : List ℕ) → IsSlotText item.now p rest → ⊥) (λ s. IsSlotText item.now s.0 s.1.now) }
-{
-    let Some((before, rest)) = parts(item) else {
-        return None;
-    };
-    match address_of(before) {
-        Some(proc_entry) => Some((proc_entry, rest)),
-        None => None,
-    }
-}
-
 // What stands before and behind the first colon.
 fn parts(item: &str) -> Option<(&str, &str)>
-    ensures { MatchOption result (Contains item.now 58 → ⊥) (λ s. Contains item.now 58
+    ensures { MatchOption result (HasColon item.now → ⊥) (λ s. HasColon item.now
         × (s.0.now ≡ before_first is_colon item.now) × (s.1.now ≡ after_first is_colon item.now)) }
 {
     item.split_once(':')
+}
+
+// The address that a text is or names.
+fn place_of(text: &str, symbols: &[Symbol]) -> Option<u64>
+    ensures { MatchOption result ((p : ℕ) → IsPlace symbols.now text.now p → ⊥) (IsPlace symbols.now text.now) }
+{
+    match address_of(text) {
+        Some(address) => Some(address),
+        None => value_of(symbols, text),
+    }
+}
+
+// The value of the first symbol of this name.
+fn value_of(symbols: &[Symbol], text: &str) -> Option<u64>
+    ensures { result ≡ value_of symbols.now text.now }
+{
+    let symbol = symbols.iter().find(|s| is_named(s, text))?;
+    Some(symbol.value)
+}
+
+fn is_named(symbol: &Symbol, text: &str) -> bool
+    ensures { result ≡ bytes_eq symbol.now.name text.now }
+{
+    symbol.name.as_slice() == text.as_bytes()
 }
 
 // The address that a text is, as `0x` and hexadecimal digits.

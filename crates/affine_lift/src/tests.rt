@@ -2,11 +2,11 @@
 
 use crate::{TrackRefusal, lift, read_tracked};
 use affine_prog::{Assign, Edge, Kind, Proc, Program};
-use elf_image::read_image;
+use elf_image::{Image, read_image};
 use flow_points::{Points, recover};
 use frame_offsets::offsets;
 use report_text::Name;
-use std::alloc::Global;
+use std::alloc::{AllocError, Global};
 use std::test::Fail;
 use word_rows::Row;
 
@@ -31,8 +31,8 @@ const HEADERS: [u8; 120] = [
     0, 0x10, 0, 0, 0, 0, 0, 0, // p_align
 ];
 
-/// The points of a small file with this code.
-fn points_of(alloc: Global, words: &[u32]) -> Result<Points, Fail> {
+/// A small file with this code.
+fn file_of(alloc: Global, words: &[u32]) -> Result<Vec<u8>, AllocError> {
     let mut bytes = Vec::from_slice(alloc, &HEADERS[..96])?;
     let length = 120 + 4 * words.len() as u64;
     bytes.extend_from_slice(&length.to_le_bytes())?;
@@ -41,15 +41,21 @@ fn points_of(alloc: Global, words: &[u32]) -> Result<Points, Fail> {
     for word in words {
         bytes.extend_from_slice(&word.to_le_bytes())?;
     }
-    let image = read_image(alloc, &bytes)?;
-    Ok(recover(alloc, &image)?)
+    Ok(bytes)
+}
+
+/// Its image and its points.
+fn read(alloc: Global, words: &[u32]) -> Result<(Image, Points), Fail> {
+    let image = read_image(alloc, &file_of(alloc, words)?)?;
+    let points = recover(alloc, &image)?;
+    Ok((image, points))
 }
 
 /// The program of a small file with this code, for a track list.
 fn lifted(alloc: Global, words: &[u32], list: &str) -> Result<Program, Fail> {
-    let points = points_of(alloc, words)?;
+    let (image, points) = read(alloc, words)?;
     let offsets = offsets(alloc, &points).ok().ok_or("memory")?;
-    let tracked = read_tracked(alloc, list, &points)?;
+    let tracked = read_tracked(alloc, list, &image, &points)?;
     Ok(lift(alloc, &points, &offsets, &tracked)?)
 }
 
@@ -228,8 +234,14 @@ const REFUSED: [(&str, TrackRefusal); 21] = [
 ];
 
 /// Whether a list is refused so.
-fn is_refused(alloc: Global, points: &Points, list: &str, refusal: TrackRefusal) -> bool {
-    match read_tracked(alloc, list, points) {
+fn is_refused(
+    alloc: Global,
+    list: &str,
+    image: &Image,
+    points: &Points,
+    refusal: TrackRefusal,
+) -> bool {
+    match read_tracked(alloc, list, image, points) {
         Ok(_) => false,
         Err(found) => found == refusal,
     }
@@ -238,26 +250,65 @@ fn is_refused(alloc: Global, points: &Points, list: &str, refusal: TrackRefusal)
 #[test]
 fn refused_lists(rt: HostRuntime) -> Result<(), Fail> {
     let alloc = rt.alloc();
-    let points = points_of(alloc, &[0x00500513, EBREAK])?;
+    let (image, points) = read(alloc, &[0x00500513, EBREAK])?;
     for (list, refusal) in REFUSED {
-        assert!(rt; is_refused(alloc, &points, list, refusal), "{list}");
+        assert!(rt; is_refused(alloc, list, &image, &points, refusal), "{list}");
     }
     Ok(())
+}
+
+/// Symbols, by their place among the texts `main`, `a0` and `end`, and their values.
+const SYMBOLS: [(u8, u64); 4] = [(1, 0x10078), (1, 0x1007c), (6, 0x10078), (9, 0x1007c)];
+
+/// The image of a file whose one procedure is 0x10078, with these symbols.
+fn image_with_symbols(alloc: Global) -> Result<Image, Fail> {
+    let mut bytes = file_of(alloc, &[0x00500513, EBREAK])?;
+    bytes.extend_from_slice(b"\0main\0a0\0end\0\0\0\0")?;
+    for (name, value) in SYMBOLS {
+        bytes.extend_from_slice(&[name, 0, 0, 0, 0x12, 0, 1, 0])?;
+        bytes.extend_from_slice(&u64::to_le_bytes(value))?;
+        bytes.extend_from_slice(&[0; 8])?;
+    }
+    // sh_type, sh_offset, sh_size, sh_link and sh_entsize, at 240
+    for [sh_type, offset, size, link, entsize] in [[2, 144, 96, 1, 24], [3, 128, 16, 0, 0]] {
+        bytes.extend_from_slice(&[0, 0, 0, 0, sh_type, 0, 0, 0])?;
+        bytes.extend_from_slice(&[0; 16])?;
+        bytes.extend_from_slice(&[offset, 0, 0, 0, 0, 0, 0, 0, size, 0, 0, 0, 0, 0, 0, 0])?;
+        bytes.extend_from_slice(&[link, 0, 0, 0, 0, 0, 0, 0, 0, 0, 0, 0, 0, 0, 0, 0])?;
+        bytes.extend_from_slice(&[entsize, 0, 0, 0, 0, 0, 0, 0])?;
+    }
+    for (at, byte) in [(40, 240), (58, 64), (60, 2)] {
+        *bytes.get_mut(at).ok_or("short")? = byte;
+    }
+    Ok(read_image(alloc, &bytes)?)
 }
 
 #[test]
 fn names_of_lists(rt: HostRuntime) -> Result<(), Fail> {
     let alloc = rt.alloc();
-    let points = points_of(alloc, &[0x00500513, EBREAK])?;
-    let tracked = read_tracked(alloc, "a0,x11,0x10078:-2048", &points)?;
-    let slot = Name::Slot {
+    let image = image_with_symbols(alloc)?;
+    let points = recover(alloc, &image)?;
+    let list = "a0,x11,0x10078:-2048,main:-8,a0:-16";
+    let slots = [2048, 8, 16].map(|below| Name::Slot {
         proc_entry: 0x10078,
-        below: 2048,
-    };
+        below,
+    });
+    let registers = [Name::Register(10), Name::Register(11)];
+    let tracked = read_tracked(alloc, list, &image, &points)?;
     assert_eq!(rt;
-        tracked.names.as_slice(),
-        [Name::Register(10), Name::Register(11), slot].as_slice()
+        tracked.names.as_slice().get(..2),
+        Some(registers.as_slice())
     );
+    assert_eq!(rt; tracked.names.as_slice().get(2..), Some(slots.as_slice()));
+    for (list, refusal) in [
+        ("main", TrackRefusal::UnknownName(1)),
+        ("a0,mai:-8", TrackRefusal::UnknownName(2)),
+        ("main:-12", TrackRefusal::BadSlot(1)),
+        ("end:-8", TrackRefusal::NoSuchProcedure(1)),
+        ("0x10078:-8,main:-8", TrackRefusal::Repeated(2)),
+    ] {
+        assert!(rt; is_refused(alloc, list, &image, &points, refusal), "{list}");
+    }
     Ok(())
 }
 

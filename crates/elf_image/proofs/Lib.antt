@@ -5,3 +5,4 @@ pub mod Held
 pub mod Units
 pub mod Laws
 pub mod BytesRead
+mod ShortNames

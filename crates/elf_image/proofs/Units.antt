@@ -1,5 +1,5 @@
 -- The unit of a file, by the first byte of its flags.
-use Rattle.std.proofs.Common.{◌≡◌, ℕ, ◌+◌, ◌*◌, ◌%◌, ◌==◌, Bool, not, List, bit_and, get_or, drop, if◌then◌else◌, sym, ap, ◌∙◌, arith}
+use Rattle.std.proofs.Common.{◌≡◌, ℕ, ◌+◌, ◌*◌, ◌%◌, ◌==◌, not, List, bit_and, get_or, drop, if◌then◌else◌, sym, ap, ◌∙◌, arith}
 use Rattle.std.proofs.lemmas.List.{get_or-drop}
 use Rattle.std.proofs.lemmas.Nat.{and_mask}
 use Rattle.elf_image.specs.Fields.{e_flags, has_bit, little_at, unit_of}

@@ -5,3 +5,4 @@ pub mod Refusals
 pub mod Ranges
 pub mod Fetches
 pub mod Images
+pub mod Symbols

@@ -1,9 +1,18 @@
-//! Numbers of 2, 4 and 8 bytes, as they stand in a file: System V ABI, "Data Representation".
+//! Numbers of 1, 2, 4 and 8 bytes, as they stand in a file: System V ABI, "Data Representation".
 
 ghost use Rattle.std.specs.Prelude.{◌≡◌, ◌+◌, ◌≤◌, ◌<◌, All, length};
 ghost use Rattle.elf_image.specs.Fields.{little_at};
 
 use byteorder::{ByteOrder, LittleEndian};
+
+/// The byte at an offset.
+#[tactic(auto, unfolding(crate::specs::Fields::little_at))]
+pub fn byte_at(bytes: &[u8], at: usize) -> u8
+    requires { at + 1 ≤ length bytes.now }
+    ensures { result ≡ little_at 1 bytes.now at }
+{
+    bytes[at]
+}
 
 /// The `Elf64_Half` at an offset.
 #[tactic(auto, unfolding(crate::specs::Fields::little_at))]

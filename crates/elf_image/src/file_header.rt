@@ -2,6 +2,7 @@
 
 ghost use Rattle.std.specs.Prelude.{◌≡◌, ◌≤◌, ◌+◌, ◌*◌, length, slice_index, OnOk};
 ghost use Rattle.elf_image.specs.Fields.{e_type, e_machine, e_entry, e_phoff, e_flags, e_phentsize, e_phnum, unit_of};
+ghost use Rattle.elf_image.specs.Symbols.{e_shentsize, e_shnum, e_shoff};
 ghost use Rattle.elf_image.specs.Refusals.{IsVerdict, identity_refusal, machine_refusal, table_refusal};
 
 use crate::fields::{half_at, word_at, xword_at};
@@ -171,4 +172,28 @@ pub fn e_phnum(bytes: &[u8]) -> u16
     ensures { result ≡ e_phnum bytes.now }
 {
     half_at(bytes, 56)
+}
+
+/// The offset of the table of section headers.
+pub fn e_shoff(bytes: &[u8]) -> u64
+    requires { 64 ≤ length bytes.now }
+    ensures { result ≡ e_shoff bytes.now }
+{
+    xword_at(bytes, 40)
+}
+
+/// The size of one section header.
+pub fn e_shentsize(bytes: &[u8]) -> u16
+    requires { 64 ≤ length bytes.now }
+    ensures { result ≡ e_shentsize bytes.now }
+{
+    half_at(bytes, 58)
+}
+
+/// The number of section headers.
+pub fn e_shnum(bytes: &[u8]) -> u16
+    requires { 64 ≤ length bytes.now }
+    ensures { result ≡ e_shnum bytes.now }
+{
+    half_at(bytes, 60)
 }

@@ -3,6 +3,7 @@
 ghost use Rattle.std.specs.Prelude.{◌≡◌, None};
 ghost use Rattle.elf_image.specs.Fields.{e_entry, unit_of};
 ghost use Rattle.elf_image.specs.Segments.{segments_of};
+ghost use Rattle.elf_image.specs.Symbols.{symbols_of};
 ghost use Rattle.elf_image.specs.Refusals.{refusal_of};
 
 use crate::fetched::Fetched;
@@ -13,8 +14,8 @@ use crate::symbol::Symbol;
 use sqlite_items::Items;
 
 /// An executable that is accepted: the bytes of its file, its entry, what addresses of its instructions
-/// are multiples of, the kept segments in the order of their headers, and the symbols, of which none is
-/// read yet.
+/// are multiples of, the kept segments in the order of their headers, and the symbols in the order of
+/// their entries.
 #[derive(Debug, Drop)]
 pub struct Image {
     pub entry: u64,
@@ -26,6 +27,7 @@ pub struct Image {
     pub ghost enters: { entry ≡ e_entry file },
     pub ghost has_unit: { unit ≡ unit_of file },
     pub ghost keeps: { segments ≡ segments_of file },
+    pub ghost named: { symbols ≡ symbols_of file },
 }
 
 impl Image {

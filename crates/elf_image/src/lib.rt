@@ -1,10 +1,11 @@
 //! The image of an ELF file: a static little-endian RV64 executable, read from its bytes.
 //!
 //! [`read_image`] says of any bytes the first condition that refuses them, or gives their image: the
-//! entry, the unit, the kept segments and the bytes. Every condition is one on the whole list of bytes, so
-//! no header, whatever it says, leads outside them. An image answers which byte is loaded at an address,
-//! which word of four bytes code has there, and what instruction word of which length is fetched there, by
-//! the file's unit. What the words mean is left to others.
+//! entry, the unit, the kept segments, the symbols and the bytes. Every condition is one on the whole list
+//! of bytes, so no header, whatever it says, leads outside them. The symbols are those of functions, in the
+//! order of their entries; a symbol table that can't be read has none, and refuses nothing. An image answers
+//! which byte is loaded at an address, which word of four bytes code has there, and what instruction word of
+//! which length is fetched there, by the file's unit. What the words mean is left to others.
 //!
 //! ```text
 //! let image = read_image(alloc, &bytes)?;
@@ -23,8 +24,12 @@ mod program_header;
 mod range;
 mod read;
 mod refusal;
+mod section;
 mod segment;
 mod symbol;
+mod symbols;
+#[cfg(test)]
+mod symbols_tests;
 #[cfg(test)]
 mod tests;
 

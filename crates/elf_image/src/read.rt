@@ -1,8 +1,9 @@
 //! Reading an image.
 
-ghost use Rattle.std.specs.Prelude.{◌≡◌, ◌≢◌, ◌≤◌, length, [], None, Some, IfOk, IfErr, OnOk};
+ghost use Rattle.std.specs.Prelude.{◌≡◌, ◌≢◌, ◌≤◌, length, None, Some, IfOk, IfErr, OnOk};
 ghost use Rattle.elf_image.specs.Fields.{e_entry, unit_of};
 ghost use Rattle.elf_image.specs.Segments.{segments_of};
+ghost use Rattle.elf_image.specs.Symbols.{symbols_of};
 ghost use Rattle.elf_image.specs.Refusals.{refusal_of};
 
 use crate::file_header::{check_identity, check_machine, check_table, e_entry, unit_of};
@@ -11,6 +12,7 @@ use crate::image::Image;
 use crate::kept::{check_entry, check_kept, kept_headers, segments};
 use crate::refusal::ElfRefusal;
 use crate::segment::Segment;
+use crate::symbols::symbols;
 use sqlite_items::Items;
 use std::alloc::Global;
 
@@ -23,16 +25,17 @@ pub fn read_image(alloc: Global, bytes: &[u8]) -> Result<Image, ElfRefusal>
     ensures entry { IfOk result (λ image. image.entry ≡ e_entry bytes.now) }
     ensures unit { IfOk result (λ image. image.unit ≡ unit_of bytes.now) }
     ensures segments { IfOk result (λ image. image.segments ≡ segments_of bytes.now) }
-    ensures symbols { IfOk result (λ image. image.symbols ≡ []) }
+    ensures symbols { IfOk result (λ image. image.symbols ≡ symbols_of bytes.now) }
 {
     let segments = accepted_segments(alloc, bytes)?;
+    let symbols = symbols(alloc, bytes).map_err(|_| ElfRefusal::Memory)?;
     let file = Items::from_slice(alloc, bytes).map_err(|_| ElfRefusal::Memory)?;
     Ok(Image {
         entry: e_entry(bytes),
         unit: unit_of(bytes),
         file,
         segments: Items::from_vec(segments),
-        symbols: Items::new(alloc),
+        symbols: Items::from_vec(symbols),
     })
 }
 

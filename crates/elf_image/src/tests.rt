@@ -6,7 +6,7 @@ use std::process::Abort;
 use std::test::Fail;
 
 /// One segment at 0x10000 with the whole file, and the code `addi a0,zero,5; ebreak` at 0x10078.
-const SMALL: [u8; 128] = [
+pub const SMALL: [u8; 128] = [
     0x7f, 0x45, 0x4c, 0x46, 2, 1, 1, 0, 0, 0, 0, 0, 0, 0, 0, 0, // e_ident
     2, 0, 243, 0, 1, 0, 0, 0, // e_type, e_machine, e_version
     0x78, 0, 1, 0, 0, 0, 0, 0, // e_entry

@@ -9,7 +9,7 @@ use Rattle.affine_lift.proofs.names.read_tracked.Goals.{In_ok-names}
 -- there is a name for each item
 each : (c : In_ok-names) → length c.in_ok-names.names ≡ length c.in_ok-items.items.items
 each c =
-    let zip = AllZip-long Names _ c.in_ok-names.names c.in_ok-names.ensures.names.named in
+    let zip = AllZip-long (Names c.as_slice.result.now) _ c.in_ok-names.names c.in_ok-names.ensures.names.named in
     let texts = length-texts c.deref.result.now in
     let same = ap length c.deref.ensures.value in
     omega arith
