@@ -1,6 +1,6 @@
 -- Texts are cut in one way at a byte of a kind.
 use Rattle.std.proofs.Common.{◌≡◌, ◌≢◌, ℕ, ◌<◌, ◌+◌, ◌-◌, Bool, false, eqb, List, [], ◌∷◌, ◌++◌, length, get_or, take, drop, length-drop, All, refl, sym, subst, ap, ◌∙◌, arith}
-use Rattle.std.specs.List.{slice_split, position_or_len}
+use Rattle.std.specs.List.{position_or_len}
 use Rattle.std.proofs.lemmas.List.{take_all, get_or-take, length-take, append_cancel_left, take-append-drop}
 use Rattle.std.proofs.Math.Seq.{take-append_seam}
 use Rattle.std.proofs.lemmas.List.Elements.{All-tail}

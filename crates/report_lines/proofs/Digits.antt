@@ -1,10 +1,9 @@
 -- Numerals have digits alone.
-use Rattle.std.proofs.Common.{◌≡◌, ℕ, ◌<◌, ◌≤◌, ◌^◌, false, eqb, List, [], ◌∷◌, subst, refl, arith}
+use Rattle.std.proofs.Common.{◌≡◌, ℕ, ◌<◌, ◌≤◌, ◌^◌, false, eqb, List, [], ◌∷◌, subst, arith}
 use Rattle.std.specs.List.{AllByRecursion}
 use Rattle.std.specs.Str.Parse.{AllDigits}
 use Rattle.std.specs.Char.{digit_value}
 use Rattle.std.proofs.lemmas.Bool.{ne_eqb}
-use Rattle.std.proofs.lemmas.Nat.{pow_pos}
 use Rattle.std.proofs.lemmas.List.Elements.{All-from_recursion}
 use Rattle.std.proofs.lemmas.Fmt.{decimal_is_IsNumeral, digits_is_IsNumeral}
 use Rattle.number_text.specs.Numerals.{dec, hex}
@@ -22,12 +21,12 @@ dec_has_no byte n other small =
 wide : 2 ^ 64 ≤ 16 ^ 64
 wide = omega arith
 
-pub hex_has_no : (byte n : ℕ) → 16 ≤ digit_value byte → 48 < byte → byte < 120 → n < 2 ^ 64 → HasNo byte (hex n)
-hex_has_no byte n other low high small =
+pub hex_has_no : (byte n : ℕ) → 16 ≤ digit_value byte → eqb 48 byte ≡ false → eqb 120 byte ≡ false → n < 2 ^ 64 → HasNo byte (hex n)
+hex_has_no byte n other no_zero no_x small =
     All-from_recursion (λ b. eqb b byte ≡ false) (hex n) (
-      ne_eqb 48 byte (λ e. omega arith),
+      no_zero,
       (
-        ne_eqb 120 byte (λ e. omega arith),
+        no_x,
         clean 16 byte _ other (digits_is_IsNumeral 16 false (omega arith) (omega arith) n (omega (arith, wide))).0.1,
       ),
     )

@@ -1,8 +1,8 @@
 -- The words of a relation's line, one word more.
-use Rattle.std.proofs.Common.{◌≡◌, ◌≢◌, ℕ, ◌+◌, ◌<◌, ◌≤◌, ◌^◌, Bool, true, false, cond, eqb, List, [], ◌∷◌, ◌++◌, All, map, length, drop, append_assoc, codes, refl, sym, subst, ap, ◌∙◌, arith}
-use Rattle.std.specs.Prelude.{nat_le, Some, None}
+use Rattle.std.proofs.Common.{◌≡◌, ◌≢◌, ℕ, ◌<◌, ◌≤◌, ◌^◌, Bool, true, false, cond, eqb, List, [], ◌∷◌, ◌++◌, map, length, drop, append_assoc, codes, refl, sym, subst, ap, ◌∙◌, arith}
+use Rattle.std.specs.Prelude.{nat_le, None}
 use Rattle.std.proofs.lemmas.Bool.{eqb-false, ne_eqb}
-use Rattle.std.proofs.lemmas.List.{append-nil, length-append}
+use Rattle.std.proofs.lemmas.List.{append-nil}
 use Rattle.std.specs.List.{AllByRecursion}
 use Rattle.std.proofs.lemmas.List.Elements.{All-push, All-nil, All-from_recursion, recursion_from_All}
 use Rattle.report_text.specs.Text.{sign, magnitude}
@@ -15,7 +15,7 @@ use Rattle.report_lines.proofs.Cuts.{one_part, parts_cut, some_part}
 use Rattle.report_lines.proofs.TermTexts.{magnitude_has_no, no_star}
 use Rattle.report_lines.proofs.WordsRead.{parts_relation, text_again}
 
-behind_sign : (v w : ℕ) (xs ys : List ℕ) → sign v ++ xs ≡ sign w ++ ys → xs ≡ ys
+pub behind_sign : (v w : ℕ) (xs ys : List ℕ) → sign v ++ xs ≡ sign w ++ ys → xs ≡ ys
 behind_sign v w xs ys = by (nat_le v (2 ^ 63)) (nat_le w (2 ^ 63))
   where
     by : (a b : Bool) → cond a (codes "+") (codes "-") ++ xs ≡ cond b (codes "+") (codes "-") ++ ys → xs ≡ ys
@@ -25,7 +25,7 @@ behind_sign v w xs ys = by (nat_le v (2 ^ 63)) (nat_le w (2 ^ 63))
     by false false e = ap (drop 1) e
 
 -- a constant is no term
-no_term : (w : ℕ) (term : Term) → IsFactor w → IsTerm term → number_text w ≢ term_text term
+pub no_term : (w : ℕ) (term : Term) → IsFactor w → IsTerm term → number_text w ≢ term_text term
 no_term w term fits also e =
     no_star (dec (magnitude w)) term (magnitude_has_no 42 w (omega arith) fits) also
     (behind_sign w term.0 (dec (magnitude w)) (lead_text term) e)
@@ -43,7 +43,7 @@ pub data IsFirst (word : List ℕ) (words : List (List ℕ)) : Type 0 where
   a_term : (t : Term) → IsTerm t → word ≡ term_text t → AreFurther words → IsFirst word words
   a_constant : (c : ℕ) → IsFactor c → word ≡ number_text c → words ≡ [] → IsFirst word words
 
-abbrev head_of : List (List ℕ) → List ℕ
+abbrev pub head_of : List (List ℕ) → List ℕ
 head_of [] = []
 head_of (word ∷ words) = word
 

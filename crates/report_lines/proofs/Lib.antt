@@ -9,3 +9,5 @@ pub mod WordsRead
 pub mod FrontsRead
 pub mod Listed
 pub mod LinesRead
+pub mod OneRelation
+pub mod OneLine

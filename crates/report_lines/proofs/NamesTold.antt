@@ -1,13 +1,14 @@
 -- A name's text tells the name.
-use Rattle.std.proofs.Common.{◌≡◌, ◌≢◌, ℕ, ◌<◌, ◌≤◌, ◌^◌, Bool, true, false, eqb, List, [], ◌∷◌, ◌++◌, All, length, get_or, drop, codes, Option, Some, None, append_assoc, refl, sym, subst, ap, ◌∙◌, arith, rules}
-use Rattle.std.specs.List.{AllPass}
+use Rattle.std.proofs.Common.{◌≡◌, ◌≢◌, ℕ, ◌<◌, ◌≤◌, ◌^◌, true, false, eqb, List, [], ◌∷◌, ◌++◌, length, drop, codes, Option, Some, None, append_assoc, refl, sym, subst, ap, ◌∙◌, arith}
 use Rattle.std.proofs.lemmas.Bool.{ne_eqb}
-use Rattle.std.proofs.lemmas.List.Elements.{All-weaker}
+use Rattle.std.proofs.lemmas.List.{length-append}
+use Rattle.std.proofs.lemmas.List.Elements.{All-append, All-from_recursion, All-weaker}
+use Rattle.std.specs.Char.{digit_value}
 use Rattle.number_text.specs.Numerals.{dec, hex}
 use Rattle.std.specs.Fmt.{digits}
 use Rattle.std.specs.Str.Parse.{digits_value}
 use Rattle.std.proofs.lemmas.Fmt.{decimal_injective, digits_is_IsNumeral}
-use Rattle.rv_decode.specs.Registers.{is_name_byte, name_of_register, register_of}
+use Rattle.rv_decode.specs.Registers.{is_name_byte, name_of_register, number_of_register, register_of}
 use Rattle.rv_decode.proofs.RegisterNames.{register_of-name, name_is_plain}
 use Rattle.report_text.specs.declared.names.Name.{Name}
 use Rattle.report_text.specs.declared.names.Name.TheVariants.{Register, Slot}
@@ -32,13 +33,13 @@ slot_by_colon p n = append_assoc (hex p) (codes ":-") (dec n)
 pub slot_is : (text front behind : List ℕ) (p n : ℕ) → text ≡ front ++ 58 ∷ behind → HasNo 58 front → p < 2 ^ 64
     → text ≡ hex p ++ codes ":-" ++ dec n → (front ≡ hex p) × (behind ≡ 45 ∷ dec n)
 slot_is text front behind p n is clean small e =
-    one_cut 58 front behind (hex p) (45 ∷ dec n) clean (hex_has_no 58 p (omega arith) (omega arith) (omega arith) small) (sym is ∙ e ∙ slot_by_colon p n)
+    one_cut 58 front behind (hex p) (45 ∷ dec n) clean (hex_has_no 58 p (omega arith) refl refl small) (sym is ∙ e ∙ slot_by_colon p n)
 
 pub no_slot : (text : List ℕ) (p n : ℕ) → HasNo 58 text → p < 2 ^ 64 → text ≢ hex p ++ codes ":-" ++ dec n
 no_slot text p n clean small e =
-    no_cut 58 text (hex p) (45 ∷ dec n) clean (hex_has_no 58 p (omega arith) (omega arith) (omega arith) small) (e ∙ slot_by_colon p n)
+    no_cut 58 text (hex p) (45 ∷ dec n) clean (hex_has_no 58 p (omega arith) refl refl small) (e ∙ slot_by_colon p n)
 
-hex_injective : (p q : ℕ) → p < 2 ^ 64 → q < 2 ^ 64 → hex p ≡ hex q → p ≡ q
+pub hex_injective : (p q : ℕ) → p < 2 ^ 64 → q < 2 ^ 64 → hex p ≡ hex q → p ≡ q
 hex_injective p q small also e =
     let wide : 2 ^ 64 ≤ 16 ^ 64 = omega arith in
     let value : (n : ℕ) → n < 2 ^ 64 → digits_value 16 (digits 16 false n) ≡ n = λ n s. (digits_is_IsNumeral 16 false (omega arith) (omega arith) n (omega arith)).1 in
@@ -47,7 +48,7 @@ hex_injective p q small also e =
 pub one_slot : (p n q m : ℕ) → p < 2 ^ 64 → q < 2 ^ 64 → n < 2 ^ 64 → m < 2 ^ 64
     → hex p ++ codes ":-" ++ dec n ≡ hex q ++ codes ":-" ++ dec m → (p ≡ q) × (n ≡ m)
 one_slot p n q m p_small q_small n_small m_small e =
-    let k = slot_is (hex p ++ codes ":-" ++ dec n) (hex p) (45 ∷ dec n) q m (slot_by_colon p n) (hex_has_no 58 p (omega arith) (omega arith) (omega arith) p_small) q_small e in
+    let k = slot_is (hex p ++ codes ":-" ++ dec n) (hex p) (45 ∷ dec n) q m (slot_by_colon p n) (hex_has_no 58 p (omega arith) refl refl p_small) q_small e in
     (hex_injective p q p_small q_small k.0, decimal_injective n m n_small m_small (ap (drop 1) k.1))
 
 some_of : Option ℕ → ℕ
@@ -75,3 +76,28 @@ no_name text p n p_small n_small is wrong (Register r) fits addressed e = regist
 no_name text p n p_small n_small is wrong (Slot q m) fits addressed e =
     let k = one_slot p n q m p_small addressed n_small (omega (arith, fits.most)) (sym is ∙ e) in
     wrong (subst IsAllowedBelow (sym k.1) fits)
+
+-- what a name's text has not
+pub name_has_no : (byte : ℕ) (name : Name) → is_name_byte byte ≡ false → 16 ≤ digit_value byte → eqb 48 byte ≡ false → eqb 120 byte ≡ false → eqb 58 byte ≡ false → eqb 45 byte ≡ false
+    → IsName name → IsAddressed name → HasNo byte (name_text name)
+name_has_no byte (Register r) plain digit no_zero no_x no_colon no_minus allowed addressed = register_has_no byte r plain allowed.1
+name_has_no byte (Slot p n) plain digit no_zero no_x no_colon no_minus allowed addressed =
+    All-append (λ b. eqb b byte ≡ false) (hex p ++ codes ":-") (dec n)
+    (All-append (λ b. eqb b byte ≡ false) (hex p) (codes ":-") (hex_has_no byte p digit no_zero no_x addressed)
+    (All-from_recursion (λ b. eqb b byte ≡ false) (codes ":-") (no_colon, (no_minus, tt))))
+    (dec_has_no byte n (omega arith) (omega (arith, allowed.most)))
+
+no_register : register_of [] ≡ None
+unfolding register_of name_of_register number_of_register
+no_register = refl
+
+pub some_register : (r : ℕ) → r < 32 → 0 < length (name_of_register r)
+some_register r small = by (name_of_register r) refl
+  where
+    by : (text : List ℕ) → name_of_register r ≡ text → 0 < length text
+    by [] e = let k : Some r ≡ None = sym (register_of-name r small) ∙ ap register_of e ∙ no_register in absurd cc
+    by (b ∷ text) e = omega arith
+
+pub some_name : (name : Name) → IsName name → 0 < length (name_text name)
+some_name (Register r) allowed = some_register r allowed.1
+some_name (Slot p n) allowed = omega (arith, length-append (hex p ++ codes ":-") (dec n), length-append (hex p) (codes ":-"))

@@ -1,7 +1,6 @@
 -- Where a name with a given text stands.
 use Rattle.std.proofs.Common.{◌≡◌, ◌≢◌, inl, inr, ℕ, ◌<◌, ◌≤◌, Bool, true, false, List, All, length, get_or, Option, Some, None, refl, sym, subst, ap, ◌∙◌, arith}
 use Rattle.std.specs.Prelude.{slice_get, IsSomeAnd, ◌⊎◌}
-use Rattle.std.specs.List.{position_or_len}
 use Rattle.std.specs.Str.{bytes_eq}
 use Rattle.std.proofs.lemmas.List.Elements.{All-get_or}
 use Rattle.std.proofs.lemmas.List.Sums.{passes_at_first, position_or_len_is}
@@ -31,7 +30,7 @@ seen_so names p k d lt h = subst (λ (o : Option Name). IsSomeAnd o (IsSeenIn p)
 equal_from : (xs ys : List ℕ) → bytes_eq xs ys ≡ true → xs ≡ ys
 equal_from xs ys e = (bytes_eq-Decides xs ys).0 e
 
-differ : (xs ys : List ℕ) → xs ≢ ys → bytes_eq xs ys ≡ false
+pub differ : (xs ys : List ℕ) → xs ≢ ys → bytes_eq xs ys ≡ false
 differ xs ys apart = by (bytes_eq xs ys) refl
   where
     by : (b : Bool) → bytes_eq xs ys ≡ b → b ≡ false

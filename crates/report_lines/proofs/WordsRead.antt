@@ -1,20 +1,18 @@
 -- The words of a relation's line.
-use Rattle.std.proofs.Common.{◌≡◌, ◌≢◌, ℕ, ◌+◌, ◌<◌, ◌≤◌, ◌^◌, Bool, true, false, cond, eqb, List, [], ◌∷◌, ◌++◌, All, map, length, drop, append_assoc, codes, refl, sym, subst, ap, ◌∙◌, arith}
-use Rattle.std.specs.Prelude.{nat_le, Some, None}
+use Rattle.std.proofs.Common.{◌≡◌, ℕ, ◌<◌, ◌≤◌, ◌^◌, Bool, true, false, cond, eqb, List, [], ◌∷◌, ◌++◌, map, length, codes, refl, sym, ap, ◌∙◌, arith}
+use Rattle.std.specs.Prelude.{nat_le}
 use Rattle.std.specs.List.{AllByRecursion, join_with_byte}
-use Rattle.std.proofs.lemmas.List.{append-nil, length-append}
 use Rattle.std.specs.Char.{digit_value}
 use Rattle.std.proofs.lemmas.Bool.{eqb-false}
-use Rattle.std.proofs.lemmas.List.Elements.{All-append, All-from_recursion, All-push, All-head, All-tail, recursion_from_All}
+use Rattle.std.proofs.lemmas.List.Elements.{All-append, All-from_recursion, recursion_from_All}
 use Rattle.std.proofs.lemmas.List.Splits.{join_with_byte-slice_split}
 use Rattle.report_text.specs.Text.{sign, magnitude}
 use Rattle.number_text.specs.Numerals.{dec}
 use Rattle.report_lines.specs.Parts.{HasNo, parts_of}
-use Rattle.report_lines.specs.Terms.{Term, IsFactor, IsTerm, IsLead, IsLeadReading, IsWordReading, lead_text, term_text, number_text}
+use Rattle.report_lines.specs.Terms.{Term, IsFactor, IsTerm, lead_text, term_text, number_text}
 use Rattle.report_lines.specs.Relations.{IsRelation, constant_words, relation_text, relation_words}
-use Rattle.report_lines.specs.Fronts.{AreFurther, IsFront}
-use Rattle.report_lines.proofs.Cuts.{one_part, parts_cut, some_part}
-use Rattle.report_lines.proofs.TermTexts.{magnitude_has_no, lead_is_term, no_star}
+use Rattle.report_lines.proofs.Cuts.{one_part, parts_cut}
+use Rattle.report_lines.proofs.TermTexts.{magnitude_has_no, lead_is_term}
 
 -- words with no such byte are what stands between the bytes
 pub join_parts : (byte : ℕ) (words : List (List ℕ)) → 0 < length words → AllByRecursion (HasNo byte) words → parts_of byte (join_with_byte byte words) ≡ words

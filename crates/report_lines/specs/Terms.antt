@@ -14,7 +14,7 @@
 --   IsLeadReading text lead  the lead whose text this is, if it is one's
 --   IsUnsignedReading plus text word   the term or the constant with this sign whose text without it this is
 --   IsWordReading text word  the term or the constant whose text this is
-use Rattle.std.specs.Prelude.{◌≡◌, ◌≢◌, ℕ, ◌<◌, ◌≤◌, ◌^◌, nat_le, Bool, true, List, ◌++◌, length, codes, Option, Some, None}
+use Rattle.std.specs.Prelude.{◌≡◌, ◌≢◌, ℕ, ◌<◌, ◌≤◌, ◌^◌, nat_le, Bool, List, ◌++◌, length, codes, Option, Some, None}
 use Rattle.std.specs.Borrow.{Bor}
 use Rattle.number_text.specs.Numerals.{dec}
 use Rattle.report_text.specs.Text.{sign, magnitude}

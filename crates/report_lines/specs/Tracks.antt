@@ -11,7 +11,6 @@
 --   IsNamePushed text old new r   new has the text's name behind old, or it is no name's
 use Rattle.std.specs.Prelude.{◌≡◌, ◌≢◌, ℕ, ◌≤◌, List, [], ◌∷◌, ◌++◌, length, map, All, AllPairs, codes, Result, Ok, Err}
 use Rattle.std.specs.List.{join_with_byte}
-use Rattle.std.specs.Str.{bytes_eq}
 use Rattle.report_text.specs.declared.names.Name.{Name}
 use Rattle.report_text.specs.declared.names.Tracked.{Tracked}
 use Rattle.report_text.specs.Names.{IsName}

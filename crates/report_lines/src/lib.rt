@@ -19,10 +19,10 @@ mod sums;
 mod track;
 mod words;
 
-pub use cutting::cut_at;
+pub use cutting::{behind, cut_at};
 pub use faults::TrackFault;
 pub use lines::{Line, read_header, read_line};
 pub use names::read_name;
-pub use relation::Relation;
+pub use relation::{Relation, read_relation};
 pub use track::read_track;
 pub use words::{Word, read_lead, read_word};

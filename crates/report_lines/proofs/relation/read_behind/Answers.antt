@@ -1,5 +1,5 @@
 use Rattle.report_lines.proofs.Cuts.{one_part, parts_cut, some_part}
-use Rattle.std.proofs.Common.{◌≡◌, List, ℕ, ◌∷◌, ◌++◌, [], subst, ap, ◌∙◌}
+use Rattle.std.proofs.Common.{◌∷◌, ◌++◌, [], subst, ap, ◌∙◌}
 use Rattle.report_lines.specs.Parts.{parts_of}
 use Rattle.report_lines.specs.Fronts.{AreFurther}
 use Rattle.report_lines.proofs.FrontsRead.{front_more, front_ends, front_ends_with, no_word, not_last}

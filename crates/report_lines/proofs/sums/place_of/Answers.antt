@@ -1,7 +1,6 @@
-use Rattle.std.proofs.Common.{arith, rules, subst, sym, ◌≡◌, ◌<◌, ℕ, length, get_or}
-use Rattle.report_text.specs.declared.names.Name.{Name}
+use Rattle.std.proofs.Common.{arith, rules, subst, sym, ◌<◌, ℕ, length, get_or}
 use Rattle.report_text.specs.declared.names.Name.TheVariants.{Register}
-use Rattle.report_text.specs.Names.{IsSeenIn, IsSeenAt}
+use Rattle.report_text.specs.Names.{IsSeenIn}
 use Rattle.report_lines.specs.Relations.{place_in}
 use Rattle.report_lines.proofs.Placed.{not_known, place_first, seen_so, seen_there}
 use Rattle.report_lines.proofs.sums.place_of.Goals as goal

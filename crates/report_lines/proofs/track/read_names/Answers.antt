@@ -1,4 +1,4 @@
-use Rattle.std.proofs.Common.{◌≡◌, List, ℕ, [], ◌∷◌, ◌++◌, ap, sym, ◌∙◌, append_assoc, subst}
+use Rattle.std.proofs.Common.{List, ℕ, [], ◌∷◌, ◌++◌, ap, sym, ◌∙◌, append_assoc, subst}
 use Rattle.report_lines.specs.Parts.{parts_of}
 use Rattle.report_lines.specs.Tracks.{AreReadNames}
 use Rattle.report_lines.proofs.Cuts.{one_part, parts_cut}

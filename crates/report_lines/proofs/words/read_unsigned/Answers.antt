@@ -1,6 +1,5 @@
 use Rattle.std.proofs.Common.{arith}
 use Rattle.report_lines.proofs.Cuts.{behind_has_no}
-use Rattle.std.proofs.Common.{sym, ◌∙◌}
 use Rattle.report_lines.proofs.TermTexts.{star, no_term, no_star, no_constant}
 use Rattle.report_lines.proofs.words.read_unsigned.Goals as goal
 

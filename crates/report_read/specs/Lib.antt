@@ -1,0 +1,5 @@
+pub mod Drafts
+pub mod Judging
+pub mod Steps
+pub mod Telling
+pub mod Written
