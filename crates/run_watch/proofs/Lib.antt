@@ -1,3 +1,10 @@
 mod Nearby
 mod Shown
 mod Keeping
+mod Seeing
+mod Placing
+mod Gathering
+mod FirstOnes
+mod Turning
+mod Going
+mod Beginning

@@ -23,9 +23,8 @@
 --   code_detail m told     kind 4: the address of the first changed byte of an instruction
 --   detail_of kind m told  what the kind finds
 --   found_at told detail   the finding at this record
---   IsJudged               the watch of this kind and state was shown a record, and then has this kind and state
 --   judge kind state m told   the state of a watch of the kind after this record: a finding stays
-use Rattle.std.specs.Prelude.{◌≡◌, ℕ, ◌≤◌, ◌*◌, ◌/◌, ◌%◌, ◌^◌, nat_lt, ◌==◌, Bool, false, not, ◌&&◌, ◌||◌, List, [], ◌∷◌, slice_index, map, filter, find, position, Option, None, Some, option_map, if◌then◌else◌}
+use Rattle.std.specs.Prelude.{ℕ, ◌*◌, ◌/◌, ◌%◌, ◌^◌, nat_lt, ◌==◌, Bool, false, not, ◌&&◌, ◌||◌, List, [], ◌∷◌, slice_index, map, filter, find, position, Option, None, Some, option_map, if◌then◌else◌}
 use Rattle.std.specs.List.{list_any, list_all}
 use Rattle.word_rows.specs.Rows.{dot}
 use Rattle.rv_step.specs.Effects.{distance}
@@ -117,7 +116,3 @@ found_at told detail = record { index = told.index; address = told.pc; detail = 
 abbrev pub judge : ℕ → Option Found → Moment → StepRec → Option Found
 judge kind (Some found) m told = Some found
 judge kind None m told = option_map (found_at told) (detail_of kind m told)
-
-pub record IsJudged (kind : ℕ) (before : Option Found) (kind_then : ℕ) (after : Option Found) (m : Moment) (told : StepRec) : Type 0 where
-  pub same_kind : kind_then ≡ kind
-  pub judged : 1 ≤ kind → kind ≤ 4 → after ≡ judge kind before m told

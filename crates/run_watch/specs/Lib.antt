@@ -2,3 +2,6 @@ pub mod Slots
 pub mod Activations
 pub mod Moments
 pub mod Judges
+pub mod Runs
+pub mod Strangers
+pub mod Turns

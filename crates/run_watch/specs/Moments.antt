@@ -1,11 +1,14 @@
 -- What watches see of a moment.
 --
 --   Moment        the moment before a step, as WatchCtx tells it
+--   slots_by names earlier last   the live slots of these activations
 --   slots_in s    the live slots, by depth
 --   moment_of c   the moment that a context tells
 use Rattle.std.specs.Prelude.{ℕ, ◌+◌, Bool, List, length, Option}
 use Rattle.run_watch.specs.Slots.{Slots}
 use Rattle.run_watch.specs.Activations.{slots_of, slots_from}
+use Rattle.report_text.specs.declared.names.Name.{Name}
+use Rattle.run_watch.specs.declared.activation.Activation.{Activation}
 use Rattle.run_watch.specs.declared.context.LiveSlots.{LiveSlots}
 use Rattle.run_watch.specs.declared.context.WatchCtx.{WatchCtx}
 use Rattle.run_watch.specs.declared.places.CodeAt.{CodeAt}
@@ -26,11 +29,14 @@ pub record Moment : Type 0 where
   pub slots : Slots
   pub code : List CodeAt
 
-abbrev pub slots_in : LiveSlots → Slots
-slots_in s = record {
-  earlier = slots_from s.names.now 1 s.earlier.now;
-  last = slots_of s.names.now (length s.earlier.now + 1) s.last.now;
+abbrev pub slots_by : List Name → List Activation → Activation → Slots
+slots_by names earlier last = record {
+  earlier = slots_from names 1 earlier;
+  last = slots_of names (length earlier + 1) last;
 }
+
+abbrev pub slots_in : LiveSlots → Slots
+slots_in s = slots_by s.names.now s.earlier.now s.last.now
 
 abbrev pub moment_of : WatchCtx → Moment
 moment_of c = record {
@@ -46,6 +52,6 @@ moment_of c = record {
   unreached = c.unreached;
   rows = c.rows.now;
   writable = c.writable;
-  slots = slots_in c.slots;
+  slots = slots_by c.names.now c.earlier.now c.last.now;
   code = c.code.now;
 }

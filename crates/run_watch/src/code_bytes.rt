@@ -23,6 +23,15 @@ impl Model for CodeBytes {
 }
 
 impl CodeBytes {
+    /// These instructions.
+    pub(crate) fn new(code: Vec<CodeAt>) -> CodeBytes
+        ensures { result ≡ code.items }
+    {
+        CodeBytes {
+            code: Items::from_vec(code),
+        }
+    }
+
     /// All of them.
     pub fn as_slice(&self) -> &[CodeAt]
         ensures { result.now ≡ self.now }

@@ -28,6 +28,7 @@ pub struct LiveSlots<'a> {
 /// relies (bit i for s of i), and its return address, which the first lacks. `values` has the words of the names that are
 /// seen, 0 for each other and 1 at position 16. `unreached` and `rows` are what the report says of the point, where it has
 /// the point. `writable` has bit i where the point assigns to the slot at position i.
+/// The tracked names and the activations tell the live slots.
 #[derive(Drop)]
 pub struct WatchCtx<'a> {
     pub point: u32,
@@ -42,6 +43,8 @@ pub struct WatchCtx<'a> {
     pub unreached: bool,
     pub rows: &'a [Row<17>],
     pub writable: u16,
-    pub slots: LiveSlots<'a>,
+    pub names: &'a [Name],
+    pub earlier: &'a [Activation],
+    pub last: &'a Activation,
     pub code: &'a CodeBytes,
 }

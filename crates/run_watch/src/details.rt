@@ -72,10 +72,15 @@ fn kept_byte(ctx: &WatchCtx, store: &StoreRec) -> Option<u64>
         depth: ctx.depth,
         writable: ctx.writable,
     };
-    if ctx.slots.is_near(store.address) {
-        first_kept(&ctx.slots, allowed, store)
+    let slots = LiveSlots {
+        names: ctx.names,
+        earlier: ctx.earlier,
+        last: ctx.last,
+    };
+    if slots.is_near(store.address) {
+        first_kept(&slots, allowed, store)
     } else {
-        first_kept_by_last(&ctx.slots, allowed, store)
+        first_kept_by_last(&slots, allowed, store)
     }
 }
 

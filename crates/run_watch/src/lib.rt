@@ -12,18 +12,33 @@
 #![tactic(auto)]
 
 mod activation;
+mod checks;
 mod code_bytes;
 mod context;
 mod details;
+mod instructions;
 mod live_slots;
+mod moment;
+mod outcomes;
 mod places;
+mod runs;
 mod shows;
+mod stack;
+mod stacks;
+mod stops;
+mod strangers;
+mod turns;
+mod values;
+mod verdicts;
 mod watch;
 mod watches;
 
 pub use activation::Activation;
+pub use checks::check_run;
 pub use code_bytes::CodeBytes;
 pub use context::{Found, LiveSlots, WatchCtx};
 pub use places::{CodeAt, SlotAt};
+pub use stops::RunStop;
+pub use verdicts::{RunRefusal, RunVerdict};
 pub use watch::Watch;
 pub use watches::{CodeWatch, RelationWatch, ReturnWatch, StoreWatch};

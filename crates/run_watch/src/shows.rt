@@ -1,9 +1,9 @@
 //! Watches that see a run.
 
-ghost use Rattle.std.specs.Prelude.{◌≡◌, IfOk};
+ghost use Rattle.std.specs.Prelude.{◌≡◌, [], ◌∷◌, IfOk};
 ghost use Rattle.std.specs.List.{AllZip};
 ghost use Rattle.run_watch.specs.Moments.{moment_of};
-ghost use Rattle.run_watch.specs.Judges.{IsJudged};
+ghost use Rattle.run_watch.specs.Runs.{HasSeen, sight_of};
 
 use crate::context::{Found, WatchCtx};
 use crate::watch::Watch;
@@ -13,7 +13,7 @@ use std::alloc::{AllocError, Global};
 
 /// Shows all watches, in order, a record with its moment.
 pub(crate) fn show(watches: &mut [Box<dyn Watch>], ctx: &WatchCtx, rec: &StepRec)
-    ensures { AllZip (λ old new. IsJudged (kind_of old) (state old) (kind_of new) (state new) (moment_of ctx.now) rec.now) watches.old watches.new }
+    ensures { AllZip (λ old new. HasSeen (sight_of (moment_of ctx.now) rec.now ∷ []) (kind_of old) (state old) (kind_of new) (state new)) watches.old watches.new }
 {
     for watch in watches.iter_mut() {
         show_one(watch, ctx, rec);
@@ -22,7 +22,7 @@ pub(crate) fn show(watches: &mut [Box<dyn Watch>], ctx: &WatchCtx, rec: &StepRec
 
 // Shows a watch a record with its moment.
 fn show_one(watch: &mut Box<dyn Watch>, ctx: &WatchCtx, rec: &StepRec)
-    ensures { IsJudged (kind_of watch.old) (state watch.old) (kind_of watch.new) (state watch.new) (moment_of ctx.now) rec.now }
+    ensures { HasSeen (sight_of (moment_of ctx.now) rec.now ∷ []) (kind_of watch.old) (state watch.old) (kind_of watch.new) (state watch.new) }
 {
     watch.see(ctx, rec);
 }

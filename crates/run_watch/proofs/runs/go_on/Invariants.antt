@@ -1,0 +1,16 @@
+use Rattle.std.proofs.Common.{◌-◌}
+use Rattle.run_watch.specs.Runs.{scene_of, steps_of, HasSeen}
+use Rattle.run_watch.proofs.Going.{IsOn}
+use Rattle.run_watch.proofs.runs.go_on.Given as goal
+
+abbrev pub invariant-loop-stop : goal.invariant-loop-stop
+invariant-loop-stop g l =
+    IsOn
+    (λ seen (a : _) (b : _). HasSeen seen
+    ((goal.Watch-dyn g (a.vtable, a.value)).kind_of a.value) ((goal.Watch-dyn g (a.vtable, a.value)).state a.value)
+    ((goal.Watch-dyn g (b.vtable, b.value)).kind_of b.value) ((goal.Watch-dyn g (b.vtable, b.value)).state b.value))
+    (scene_of l.points l.offsets l.report l.code) l.limit (record { machine = l.initial.machine; stack = l.initial.stack })
+    (record { machine = l.machine; stack = l.stack }) l.initial.watches l.watches
+
+abbrev pub decreases-loop-stop : goal.decreases-loop-stop
+decreases-loop-stop g l = l.limit - steps_of (record { machine = l.machine; stack = l.stack })

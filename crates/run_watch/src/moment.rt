@@ -1,0 +1,89 @@
+//! The moment at which a run is.
+
+ghost use Rattle.std.specs.Prelude.{◌≡◌, ◌+◌, ◌≤◌, ◌==◌, ◌&&◌, length, find, option_copied, option_map};
+ghost use Rattle.flow_points.specs.Walks.{point};
+ghost use Rattle.frame_offsets.specs.Frames.{AreOffsetsOf};
+ghost use Rattle.rv_step.specs.Records.{IsClosing};
+ghost use Rattle.run_watch.specs.Moments.{moment_of};
+ghost use Rattle.run_watch.specs.Runs.{scene_of, IsAtPoint, Describes, told_at, is_unreached, rows_in, is_return, is_told_of};
+
+use crate::code_bytes::CodeBytes;
+use crate::context::WatchCtx;
+use crate::stacks::Stack;
+use crate::values::values;
+use affine_lift::slot_writes;
+use flow_points::{CodePoint, Flow, Point, Points};
+use frame_offsets::Offsets;
+use report_text::{PointRows, PointState, Report};
+use rv_step::{Machine, StepRec};
+use word_rows::Row;
+
+/// The moment of a run at a point.
+pub(crate) fn context<'a>(
+    points: &Points,
+    offsets: &Offsets,
+    report: &'a Report,
+    code: &'a CodeBytes,
+    stack: &'a Stack,
+    machine: &Machine,
+    here: &StepRec,
+    at: u32,
+    code_point: &CodePoint,
+) -> WatchCtx<'a>
+    requires is_at { IsAtPoint (scene_of points.now offsets.now report.now code.now) (record { machine = machine.now; stack = stack.now }) at code_point.now }
+    requires here { IsClosing machine.now here.now }
+    requires offsets { AreOffsetsOf points.now offsets.now }
+    requires few { length stack.now.earlier + 1 ≤ 65536 }
+    ensures { Describes (scene_of points.now offsets.now report.now code.now) (record { machine = machine.now; stack = stack.now }) at code_point.now (moment_of result) }
+{
+    let names = report.tracked.names.as_slice();
+    let told = told_at(report.points.as_slice(), code_point.point);
+    WatchCtx {
+        point: at,
+        proc_entry: stack.last.procedure,
+        depth: stack.earlier.len() as u32 + 1,
+        entry_sp: stack.last.entry_sp,
+        entry_saved: stack.last.saved,
+        relied: stack.last.relied,
+        return_to: stack.last.return_to,
+        is_return: code_point.flow == Flow::Return,
+        values: values(machine, &here.regs, names, &stack.last),
+        unreached: is_unreached(told),
+        rows: rows_in(told),
+        writable: slot_writes(points, offsets, &report.tracked, at),
+        names,
+        earlier: stack.earlier.as_slice(),
+        last: &stack.last,
+        code,
+    }
+}
+
+// What a report tells of a point, if it has it.
+fn told_at(told: &[PointRows], point: Point) -> Option<&PointRows>
+    ensures { option_copied result ≡ find (is_told_of point) told.now }
+{
+    told.iter().find(|t| t.proc_entry == point.proc_entry && t.address == point.address)
+}
+
+// It calls the point unreached.
+fn is_unreached(told: Option<&PointRows>) -> bool
+    ensures { result ≡ is_unreached (option_map (λ t. t.state) (option_copied told.entry)) }
+{
+    match told {
+        Some(point) => matches!(point.state, PointState::Unreached),
+        None => false,
+    }
+}
+
+// The rows that it has there.
+fn rows_in(told: Option<&PointRows>) -> &[Row<17>]
+    ensures { result.now ≡ rows_in (option_map (λ t. t.state) (option_copied told.entry)) }
+{
+    match told {
+        Some(point) => match &point.state {
+            PointState::Rows(rows) => rows.as_slice(),
+            PointState::Unreached => &[],
+        },
+        None => &[],
+    }
+}

@@ -1,0 +1,6 @@
+mod WordTexts
+mod Cuts
+mod NamesClean
+mod ItemsSet
+mod Tables
+mod ListsRead

@@ -1,0 +1,13 @@
+-- These are the registers of the items so far, and those that they name are marked.
+use Rattle.std.proofs.Common.{◌≡◌, length, take}
+use Rattle.start_registers.specs.Settings.{texts_of, AreRegistersOf}
+use Rattle.start_registers.proofs.ListsRead.{IsMarked}
+use Rattle.start_registers.proofs.list.registers_of.Given as goal
+
+abbrev pub invariant-loop-item : goal.invariant-loop-item
+invariant-loop-item l = record {
+  made : AreRegistersOf (take l.item-index (texts_of l.items)) l.regs;
+  marked : IsMarked (take l.item-index (texts_of l.items)) l.named;
+  regs_wide : length l.regs ≡ 32;
+  named_wide : length l.named ≡ 32;
+}
