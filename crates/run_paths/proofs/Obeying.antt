@@ -31,7 +31,7 @@ use Rattle.run_paths.proofs.States.{start_has}
 use Rattle.run_paths.proofs.Turning.{call_edge}
 
 module _ (image : Image) (lift : Lift) (is : IsLiftOf image lift) where
-  open_path : (s : List ℕ) (memory : ℕ → ℕ) (a : Activation) (earlier : List Activation) (maps : List (List ℕ)) (c : CodePoint) (regs : List ℕ)
+  pub open_path : (s : List ℕ) (memory : ℕ → ℕ) (a : Activation) (earlier : List Activation) (maps : List (List ℕ)) (c : CodePoint) (regs : List ℕ)
       → AllStand lift s memory (a ∷ earlier) maps c regs → OpenPath lift.program s (node lift c.point) (state_of lift a regs memory)
   open_path s memory a [] [] c regs h = absurd h
   open_path s memory a [] (f ∷ []) c regs h =
