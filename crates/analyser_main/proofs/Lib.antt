@@ -3,3 +3,8 @@ mod RepliesGiven
 mod TooLong
 mod Refused
 mod NoFault
+mod WordsRead
+mod CountsRead
+mod RowsTold
+mod OutOfRange
+mod OrdersDone

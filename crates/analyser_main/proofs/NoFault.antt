@@ -1,9 +1,10 @@
 -- Calls over files, or over a sink, whose counts don't rise.
 use Rattle.std.proofs.Common.{◌≡◌, ◌≢◌, ℕ, ◌<◌, inl, inr, List, Option, Some, None, arith}
 use Rattle.outside.specs.Counts.{HasRisen}
-use Rattle.analyser_main.specs.Answers.{Call, IsRefused, too_long, no_image, bad_flow, report_text, IsAnswer, refused, no_list, crowded, analysed, IsListing, listed, IsAnswerOver, IsUsage, Says, whole, cut, Ends, answered, read_fault, no_memory, IsCarriedOut}
-use Rattle.analyser_main.specs.Orders.{Order, Usage, Analyse, Certify, ListCode}
+use Rattle.analyser_main.specs.Answers.{Call, IsRefused, too_long, no_image, bad_flow, report_text, IsAnswer, refused, no_list, crowded, analysed, IsListing, listed, IsGenAnswer, out_of_range, generated, IsAnswerOver, IsUsage, Says, whole, cut, Ends, answered, read_fault, no_memory, IsCarriedOut}
+use Rattle.analyser_main.specs.Orders.{Order, Usage, Analyse, Certify, ListCode, Generate}
 use Rattle.analyser_main.specs.CertsText.{certs_text}
+use Rattle.analyser_main.specs.GenText.{gen_text}
 use Rattle.analyser_core.specs.declared.cert_line.CertLine.{CertLine}
 use Rattle.report_text.specs.declared.reports.Report.{Report}
 
@@ -35,6 +36,10 @@ answer_low told list bytes status text (refused status' text' is) = let low = re
 answer_low told list bytes status text (no_list status' text' image points refusal short of has why other is line) = omega arith
 answer_low told list bytes status text (crowded status' text' short many is line) = omega arith
 answer_low told list bytes status text (analysed status' text' report certs short what is line) = omega arith
+
+gen_low : (n : ℕ) (list : List ℕ) → IsLow (IsGenAnswer n list)
+gen_low n list status text (out_of_range status' text' out is line) = omega arith
+gen_low n list status text (generated status' text' bytes is answer) = answer_low (gen_text n bytes) list bytes status text answer
 
 listing_low : (bytes : List ℕ) → IsLow (IsListing bytes)
 listing_low bytes status text (refused status' text' is) = let low = refused_status bytes status text is in omega arith
@@ -68,6 +73,7 @@ no_read_fault (Analyse file list) c answer still is =
 no_read_fault (Certify file list) c answer still is =
     no_read _ _ c answer (over_low (c.contents file) (IsAnswer certs_text list) (answer_low certs_text list)) (still file) is
 no_read_fault (ListCode file) c answer still is = no_read _ _ c answer (over_low (c.contents file) IsListing listing_low) (still file) is
+no_read_fault (Generate n list) c answer still is = no_read (IsGenAnswer n list) ⊥ c answer (gen_low n list) (λ never. never) is
 
 -- where the sink's count doesn't
 pub no_write_fault : (order : Order) (c : Call) (answer : ℕ) → (HasRisen c.sink_before c.sink_after → ⊥) → IsCarriedOut order c answer → answer ≢ 4
@@ -77,3 +83,4 @@ no_write_fault (Analyse file list) c answer still is =
 no_write_fault (Certify file list) c answer still is =
     no_write _ _ c answer (over_low (c.contents file) (IsAnswer certs_text list) (answer_low certs_text list)) still is
 no_write_fault (ListCode file) c answer still is = no_write _ _ c answer (over_low (c.contents file) IsListing listing_low) still is
+no_write_fault (Generate n list) c answer still is = no_write (IsGenAnswer n list) ⊥ c answer (gen_low n list) still is

@@ -6,7 +6,8 @@ use Rattle.std.specs.Result.{IfOk}
 use Rattle.outside.specs.Counts.{HasRisen}
 use Rattle.analyser_main.specs.declared.Reply.{Reply}
 use Rattle.analyser_main.specs.declared.Reply.TheVariants.{Whole, ReadFault, OutOfMemory}
-use Rattle.analyser_main.specs.Answers.{Call, Ends, answered, read_fault, no_memory}
+use Rattle.analyser_main.specs.Orders.{Order, Usage, Analyse, Certify, ListCode, Generate}
+use Rattle.analyser_main.specs.Answers.{Call, Ends, IsCarriedOut, SaysIn, answered, read_fault, no_memory, no_memory_text}
 use Rattle.analyser_main.specs.Replies.{AnswersWith, IsReplyOf, SaysReply}
 
 pub reply_answers : (Is : ℕ → List ℕ → Type 0) (Rose : Type 0) (answer : Result (ℕ × Vec ℕ Global) AllocError) (reply : Reply) →
@@ -19,3 +20,11 @@ pub reply_ends : (Is : ℕ → List ℕ → Type 0) (Rose : Type 0) (c : Call) (
 reply_ends Is Rose c (Whole status text) answer is said = answered answer status text.items is said
 reply_ends Is Rose c ReadFault answer rose said = read_fault answer rose said
 reply_ends Is Rose c OutOfMemory answer is said = no_memory answer said
+
+-- each order may end for want of memory
+pub memory_wanting : (order : Order) (c : Call) (answer : ℕ) → SaysIn c 5 no_memory_text answer → IsCarriedOut order c answer
+memory_wanting Usage c answer said = no_memory answer said
+memory_wanting (Analyse file list) c answer said = no_memory answer said
+memory_wanting (Certify file list) c answer said = no_memory answer said
+memory_wanting (ListCode file) c answer said = no_memory answer said
+memory_wanting (Generate n list) c answer said = no_memory answer said

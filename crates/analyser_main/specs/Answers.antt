@@ -11,6 +11,9 @@
 --                                     the text for a report and certificates
 --   IsListed bytes text               the bytes are accepted, and the text is the list of their points
 --   IsListing bytes status text       what `list` answers over it
+--   IsGenAnswer n list status text
+--                                     what `gen` answers: that n is out of range, or what an order with the list answers over the
+--                                     file with n procedures, where a summary is told
 --   IsUsage status text               what arguments get that are no order
 --   IsAnswerOver contents answer ..   an answer over the contents where they are told, and else over some bytes
 --   Says old new status text Rose answer
@@ -33,7 +36,8 @@ use Rattle.elf_image.specs.Refusals.{refusal_of}
 use Rattle.flow_points.specs.Refusals.{IsFlowRefusal}
 use Rattle.flow_points.specs.PointLists.{FlowPoints}
 use Rattle.flow_points.specs.declared.refusal.FlowRefusal.{FlowRefusal}
-use Rattle.affine_lift.specs.Tracking.{IsTrackRefusal}
+use Rattle.gen_elf.specs.Generated.{IsGenerated, IsOutOfRange}
+use Rattle.affine_lift.specs.Tracking.{IsTrackRefusal, scope_of}
 use Rattle.affine_lift.specs.declared.refusal.TrackRefusal as tracks
 use Rattle.affine_lift.specs.declared.refusal.TrackRefusal.{TrackRefusal}
 use Rattle.report_text.specs.declared.reports.Report.{Report}
@@ -42,10 +46,11 @@ use Rattle.analyser_core.specs.Heads.{most_heads}
 use Rattle.analyser_core.specs.Accepted.{most_bytes, IsImageOf, HasPoints, IsCrowded}
 use Rattle.analyser_core.specs.Reports.{IsReportOver}
 use Rattle.analyser_core.specs.declared.cert_line.CertLine.{CertLine}
-use Rattle.analyser_main.specs.Orders.{Order, Usage, Analyse, Certify, ListCode}
-use Rattle.analyser_main.specs.Lines.{elf_line, flow_line, track_line, heads_line, too_long_line}
+use Rattle.analyser_main.specs.Orders.{Order, Usage, Analyse, Certify, ListCode, Generate}
+use Rattle.analyser_main.specs.Lines.{elf_line, flow_line, range_line, track_line, heads_line, too_long_line}
 use Rattle.analyser_main.specs.PointsList.{list_text}
 use Rattle.analyser_main.specs.CertsText.{certs_text}
+use Rattle.analyser_main.specs.GenText.{gen_text}
 
 pub record Call : Type 0 where
   pub contents : List ℕ → Option (List ℕ)
@@ -80,8 +85,8 @@ report_text report certs = text_of report
 pub data IsAnswer (told : Report → List CertLine → List ℕ) (list bytes : List ℕ) : ℕ → List ℕ → Type 0 where
   refused : (status : ℕ) (text : List ℕ) → IsRefused bytes status text → IsAnswer told list bytes status text
   no_list : (status : ℕ) (text : List ℕ) (image : Image) (points : FlowPoints) (refusal : TrackRefusal) → length bytes ≤ most_bytes →
-      IsImageOf bytes image → HasPoints image points → IsTrackRefusal points.procedures list refusal → refusal ≢ tracks.TheVariants.Memory →
-      status ≡ 1 → text ≡ track_line refusal → IsAnswer told list bytes status text
+      IsImageOf bytes image → HasPoints image points → IsTrackRefusal (scope_of image.symbols points.procedures) list refusal →
+      refusal ≢ tracks.TheVariants.Memory → status ≡ 1 → text ≡ track_line refusal → IsAnswer told list bytes status text
   crowded : (status : ℕ) (text : List ℕ) → length bytes ≤ most_bytes → IsCrowded bytes list → status ≡ 1 → text ≡ heads_line most_heads →
       IsAnswer told list bytes status text
   analysed : (status : ℕ) (text : List ℕ) (report : Report) (certs : List CertLine) → length bytes ≤ most_bytes →
@@ -98,9 +103,15 @@ pub data IsListing (bytes : List ℕ) : ℕ → List ℕ → Type 0 where
   refused : (status : ℕ) (text : List ℕ) → IsRefused bytes status text → IsListing bytes status text
   listed : (status : ℕ) (text : List ℕ) → length bytes ≤ most_bytes → IsListed bytes text → status ≡ 0 → IsListing bytes status text
 
+pub data IsGenAnswer (n : ℕ) (list : List ℕ) : ℕ → List ℕ → Type 0 where
+  out_of_range : (status : ℕ) (text : List ℕ) → IsOutOfRange n → status ≡ 1 → text ≡ range_line n → IsGenAnswer n list status text
+  generated : (status : ℕ) (text bytes : List ℕ) → IsGenerated n bytes → IsAnswer (gen_text n bytes) list bytes status text →
+      IsGenAnswer n list status text
+
 pub record IsUsage (status : ℕ) (text : List ℕ) : Type 0 where
   pub status_is : status ≡ 2
   pub text_is : text ≡ codes "usage:" ++ nl ++ codes "analyse FILE --track LIST" ++ nl ++ codes "cert FILE --track LIST" ++ nl ++ codes "list FILE" ++ nl
+      ++ codes "gen N --track LIST" ++ nl
 
 abbrev pub IsAnswerOver : Option (List ℕ) → (List ℕ → ℕ → List ℕ → Type 0) → ℕ → List ℕ → Type 0
 IsAnswerOver (Some bytes) answer status text = answer bytes status text
@@ -132,3 +143,4 @@ IsCarriedOut Usage c answer = Ends IsUsage ⊥ c answer
 IsCarriedOut (Analyse file list) c answer = EndsOver file (IsAnswer report_text list) c answer
 IsCarriedOut (Certify file list) c answer = EndsOver file (IsAnswer certs_text list) c answer
 IsCarriedOut (ListCode file) c answer = EndsOver file IsListing c answer
+IsCarriedOut (Generate n list) c answer = Ends (IsGenAnswer n list) ⊥ c answer

@@ -3,5 +3,7 @@ pub mod OrdersRead
 pub mod Lines
 pub mod PointsList
 pub mod CertsText
+pub mod GenText
 pub mod Answers
 pub mod Replies
+pub mod Completeness

@@ -9,6 +9,7 @@
 --                         is told by the unit and its lowest byte
 --   track_line refusal    the line of what a list is refused for
 --   heads_line limit      the line of a program with more heads than that
+--   range_line n          the line for a number of procedures that is out of range
 --   too_long_line         the line for a file with too many bytes
 --   IsLineOf bytes refusal text
 --                         the text is the line of what these bytes are refused for; want of memory has none
@@ -82,6 +83,9 @@ track_line tracks.TheVariants.Memory = []
 
 abbrev pub heads_line : ℕ → List ℕ
 heads_line limit = refused (valued (codes "TooManyHeads") (dec limit))
+
+abbrev pub range_line : ℕ → List ℕ
+range_line n = refused (valued (codes "Range") (dec n))
 
 abbrev pub too_long_line : List ℕ
 too_long_line = refused (codes "TooLong 16777216")

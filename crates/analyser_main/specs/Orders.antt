@@ -1,36 +1,106 @@
--- Orders, as words on a command line after the program's name.
+-- Orders, as words on a command line after the program's name. The first word names the command, and `clap` reads the words behind
+-- it, by one simple command for each name. What `clap` makes of words is told in its own specs: `--name value` and `--name=value`
+-- both give the option its value, options may stand before, between and behind positions, and behind `--` each word is a position.
+-- Values are plain text, judged by this program's own rules.
 --
---   Usage                 words of no form that is an order
---   Analyse file list     `analyse FILE --track LIST`
---   Certify file list     `cert FILE --track LIST`
---   ListCode file         `list FILE`
---   texts_of words        the bytes of each word
---   is_operand text       text doesn't begin with `-`
---   track_order_of command file list   the order that the command is with a list
---   order_of words        the order that the words are
-use Rattle.std.specs.Prelude.{ℕ, Bool, true, ◌&&◌, not, ◌==◌, List, [], ◌∷◌, map, codes, if◌then◌else◌, String, string_bytes}
+--   Usage                  words that are no order
+--   Analyse file list      `analyse FILE --track LIST`
+--   Certify file list      `cert FILE --track LIST`
+--   ListCode file          `list FILE`
+--   Generate n list        `gen N --track LIST`
+--   texts_of words         the bytes of each word
+--   position name          the rule of a required position of this name
+--   option name            the rule of a required option `--name`, which takes one value and may stand once
+--   command name rules     the command of this name with these arguments, and with no flags of its own for help and version
+--   file_command name      the command with FILE
+--   track_command name over  the command with --track and this position
+--   has_none faults        there are no faults
+--   is_taken app words     the command takes the words
+--   value_in app words name  the value that an argument has in words that are taken; a required one has some
+--   most_count             the greatest number in an order
+--   is_numeral text        some digits
+--   has_zeros text         a zero stands before other bytes
+--   is_count text          digits without zeros in front, of a number that isn't above the greatest
+--   count_of text          that number
+--   when_taken app words order  the order that the values make, where the command takes the words
+--   generate_of n list     the order to generate, where there is a number
+--   order_of words         the order that the words are
+use Rattle.std.specs.Prelude.{ℕ, Bool, ◌&&◌, not, ◌==◌, nat_le, nat_lt, List, [], ◌∷◌, map, length, slice_index, codes, if◌then◌else◌, Option, Some, None, unwrap_or, true, false, String, string_bytes}
+use Rattle.std.specs.List.{list_all}
 use Rattle.std.specs.Str.{bytes_eq}
+use Rattle.std.specs.Str.Parse.{digits_value}
+use Rattle.std.specs.Char.{digit_value}
 use Rattle.std.specs.declared.alloc.Global.{Global}
+use Rattle.clap.specs.Words.{App, Kinds, Rule, fault_of, first_of, matches_of, new_app, new_rule, with_rule}
+use Rattle.clap.specs.Simple.{on_top}
+use Rattle.clap.specs.declared.builder.action.ArgAction.TheVariants.{Set}
 
 pub data Order : Type 0 where
   Usage : Order
   Analyse : (file list : List ℕ) → Order
   Certify : (file list : List ℕ) → Order
   ListCode : (file : List ℕ) → Order
+  Generate : (n : ℕ) (list : List ℕ) → Order
 
 abbrev pub texts_of : List (String Global) → List (List ℕ)
 texts_of words = map (λ w. string_bytes w) words
 
-abbrev pub is_operand : List ℕ → Bool
-is_operand [] = true
-is_operand (c ∷ text) = not (c == 45)
+abbrev pub position : List ℕ → Rule
+position name = record (new_rule name) { required = true; action = Some Set }
 
-abbrev pub track_order_of : List ℕ → List ℕ → List ℕ → Order
-track_order_of command file list =
-    if bytes_eq command (codes "analyse") then Analyse file list else if bytes_eq command (codes "cert") then Certify file list else Usage
+abbrev pub option : List ℕ → Rule
+option name = record (new_rule name) { long = Some name; required = true; action = Some Set }
+
+abbrev pub bare_command : List ℕ → App
+bare_command name =
+    on_top (λ top. record top { no_binary_name = true; disable_help_flag = true; disable_version_flag = true }) (new_app name)
+
+unfoldable pub file_command : List ℕ → App
+file_command name = with_rule (bare_command name) (position (codes "file"))
+
+unfoldable pub track_command : List ℕ → List ℕ → App
+track_command name over = with_rule (with_rule (bare_command name) (position over)) (option (codes "track"))
+
+abbrev pub has_none : Kinds → Bool
+has_none [] = true
+has_none (fault ∷ faults) = false
+
+unfoldable pub is_taken : App → List (List ℕ) → Bool
+is_taken app words = has_none (fault_of app words)
+
+unfoldable pub value_in : App → List (List ℕ) → List ℕ → List ℕ
+value_in app words name = unwrap_or (first_of name (matches_of app words)) []
+
+abbrev pub most_count : ℕ
+most_count = 1000000000
+
+abbrev pub is_numeral : List ℕ → Bool
+is_numeral text = nat_lt 0 (length text) && list_all (λ c. nat_lt (digit_value c) 10) text
+
+abbrev pub has_zeros : List ℕ → Bool
+has_zeros text = nat_lt 1 (length text) && slice_index text 0 == 48
+
+abbrev pub is_count : List ℕ → Bool
+is_count text = is_numeral text && not (has_zeros text) && nat_le (digits_value 10 text) most_count
+
+abbrev pub count_of : List ℕ → Option ℕ
+count_of text = if is_count text then Some (digits_value 10 text) else None
+
+abbrev pub when_taken : App → List (List ℕ) → ((List ℕ → List ℕ) → Order) → Order
+when_taken app words order = if is_taken app words then order (value_in app words) else Usage
+
+abbrev pub generate_of : Option ℕ → List ℕ → Order
+generate_of None list = Usage
+generate_of (Some n) list = Generate n list
 
 abbrev pub order_of : List (List ℕ) → Order
-order_of (command ∷ file ∷ option ∷ list ∷ []) =
-    if bytes_eq option (codes "--track") && is_operand file && is_operand list then track_order_of command file list else Usage
-order_of (command ∷ file ∷ []) = if bytes_eq command (codes "list") && is_operand file then ListCode file else Usage
-order_of words = Usage
+order_of [] = Usage
+order_of (command ∷ words) =
+    if bytes_eq command (codes "analyse")
+    then when_taken (track_command command (codes "file")) words (λ value. Analyse (value (codes "file")) (value (codes "track")))
+    else if bytes_eq command (codes "cert")
+    then when_taken (track_command command (codes "file")) words (λ value. Certify (value (codes "file")) (value (codes "track")))
+    else if bytes_eq command (codes "list") then when_taken (file_command command) words (λ value. ListCode (value (codes "file")))
+    else if bytes_eq command (codes "gen")
+    then when_taken (track_command command (codes "n")) words (λ value. generate_of (count_of (value (codes "n"))) (value (codes "track")))
+    else Usage

@@ -1,13 +1,31 @@
 -- Orders, as the program holds them.
 --
---   IsOrder given order     the order that is held is this one
-use Rattle.std.specs.Prelude.{◌≡◌}
+--   order_in held              the order that the program holds
+--   value_read parse name      the value that a parse has of an argument
+--   HasValues app words parse  the command takes the words, and the parse has their values
+--   IsParseOf app words parse  the parse has the values of the words, or there is none, where the command doesn't take them
+use Rattle.std.specs.Prelude.{◌≡◌, ℕ, true, false, List, [], Option, Some, None, unwrap_or}
+use Rattle.clap.specs.Words.{App, found_of, first_of, rows_of}
+use Rattle.clap.specs.declared.parser.matches.ArgMatches.{ArgMatches}
 use Rattle.analyser_main.specs.Orders as spec
+use Rattle.analyser_main.specs.Orders.{is_taken, value_in}
 use Rattle.analyser_main.specs.declared.Order.{Order}
-use Rattle.analyser_main.specs.declared.Order.TheVariants.{Usage, Analyse, Certify, ListCode}
+use Rattle.analyser_main.specs.declared.Order.TheVariants.{Usage, Analyse, Certify, ListCode, Generate}
 
-abbrev pub IsOrder : Order → spec.Order → Type 0
-IsOrder Usage order = order ≡ spec.Usage
-IsOrder (Analyse file list) order = order ≡ spec.Analyse file.now list.now
-IsOrder (Certify file list) order = order ≡ spec.Certify file.now list.now
-IsOrder (ListCode file) order = order ≡ spec.ListCode file.now
+abbrev pub order_in : Order → spec.Order
+order_in Usage = spec.Usage
+order_in (Analyse file list) = spec.Analyse file.now list.now
+order_in (Certify file list) = spec.Certify file.now list.now
+order_in (ListCode file) = spec.ListCode file.now
+order_in (Generate n list) = spec.Generate n list.now
+
+unfoldable pub value_read : ArgMatches → List ℕ → List ℕ
+value_read parse name = unwrap_or (first_of name (rows_of (found_of parse))) []
+
+pub record HasValues (app : App) (words : List (List ℕ)) (parse : ArgMatches) : Type 0 where
+  pub taken : is_taken app words ≡ true
+  pub values : (name : List ℕ) → value_read parse name ≡ value_in app words name
+
+abbrev pub IsParseOf : App → List (List ℕ) → Option ArgMatches → Type 0
+IsParseOf app words None = is_taken app words ≡ false
+IsParseOf app words (Some parse) = HasValues app words parse

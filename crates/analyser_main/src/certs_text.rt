@@ -33,8 +33,8 @@ pub fn write_certs(
     Ok(text)
 }
 
-// The procedures of points, each once where they ascend.
-fn procedures_of(alloc: Global, points: &[PointRows]) -> Result<Vec<u64>, AllocError>
+/// The procedures of points, each once where they ascend.
+pub fn procedures_of(alloc: Global, points: &[PointRows]) -> Result<Vec<u64>, AllocError>
     ensures { IfOk result (λ procedures. procedures.items ≡ procedures_of points.now) }
 {
     let mut procedures = entries_of(alloc, points)?;

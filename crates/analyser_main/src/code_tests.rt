@@ -96,7 +96,7 @@ fn report_with(alloc: Global, list: &str, points: &[&str]) -> Result<Vec<u8>, Al
 }
 
 // The worked reports: calls, recursion with a slot, a loop, code behind a call that doesn't return.
-const RECURSION: &str =
+pub(crate) const RECURSION: &str =
     "affine-report 2\ntrack sp,ra,0x10080:-8\nproc 0x10078\ncert sp never\ncert ra never\nat 0x10078\nnone\nat 0x1007c\nrel 1*ra -65660\nproc 0x10080\ncert sp granted\ncert ra granted\nat 0x10080\nrel 4611686018427387904*ra\nat 0x10084\nrel 4611686018427387904*ra\nat 0x10088\nrel 1*ra +4611686018427387903*0x10080:-8\nrel 4611686018427387904*0x10080:-8\nat 0x1008c\nrel 1*ra +4611686018427387903*0x10080:-8\nrel 4611686018427387904*0x10080:-8\nat 0x10090\nrel 4611686018427387904*ra\nrel 4611686018427387904*0x10080:-8\nat 0x10094\nrel 1*ra +4611686018427387903*0x10080:-8\nrel 4611686018427387904*0x10080:-8\nat 0x10098\nrel 1*ra +4611686018427387903*0x10080:-8\nrel 4611686018427387904*0x10080:-8\nend\n";
 
 const FRAME: &str =
@@ -118,7 +118,7 @@ const FRAME_CODE: [u32; 17] = [
 ];
 
 // jal ra,8; ebreak; addi sp,sp,-16; sd ra,8(sp); beq a0,zero,8; jal ra,-12; ld ra,8(sp); addi sp,sp,16; ret
-const RECURSION_CODE: [u32; 9] = [
+pub(crate) const RECURSION_CODE: [u32; 9] = [
     0x008000EF, EBREAK, 0xFF010113, 0x00113423, 0x00050463, 0xFF5FF0EF, 0x00813083, 0x01010113,
     0x00008067,
 ];

@@ -1,56 +1,126 @@
 //! The order that arguments are.
 
-ghost use Rattle.std.specs.Prelude.{◌≡◌, [], ◌∷◌};
-ghost use Rattle.analyser_main.specs.Orders.{texts_of, is_operand, order_of};
-ghost use Rattle.analyser_main.specs.OrdersRead.{IsOrder};
+ghost use Rattle.std.specs.Prelude.{◌≡◌, ◌≢◌, ◌==◌, ◌<◌, ◌^◌, ◌∷◌, IfOk, codes, slice_index};
+ghost use Rattle.std.specs.Option.{SomeIff};
+ghost use Rattle.std.specs.Str.Parse.{IsNumeral, digits_value};
+ghost use Rattle.analyser_main.specs.Orders.{texts_of, order_of, count_of, has_zeros};
+ghost use Rattle.analyser_main.specs.OrdersRead.{order_in};
 
 use crate::Order;
+use crate::command_words::{parse_file, parse_track, value_of};
+use std::alloc::{AllocError, Global};
+
+/// The greatest number in an order.
+const MOST_COUNT: u64 = 1_000_000_000;
 
 /// The order that the arguments are.
-pub fn read_order(words: &[String]) -> Order<'_>
-    ensures { IsOrder result (order_of (texts_of words.now)) }
+pub fn read_order(alloc: Global, words: &[String]) -> Result<Order<'_>, AllocError>
+    ensures { IfOk result (λ order. order_in order ≡ order_of (texts_of words.now)) }
 {
-    match words {
-        [command, file, option, list] => {
-            track_order(
-                command.as_str(),
-                file.as_str(),
-                option.as_str(),
-                list.as_str(),
-            )
-        }
-        [command, file] => list_order(command.as_str(), file.as_str()),
-        _ => Order::Usage,
+    let [command, words @ ..] = words else {
+        return Ok(Order::Usage);
+    };
+    match command.as_str() {
+        "analyse" => analyse_order(alloc, words),
+        "cert" => certify_order(alloc, words),
+        "list" => list_order(alloc, words),
+        "gen" => generate_order(alloc, words),
+        _ => Ok(Order::Usage),
     }
 }
 
-fn track_order<'a>(command: &str, file: &'a str, option: &str, list: &'a str) -> Order<'a>
-    ensures { IsOrder result (order_of (command.now ∷ file.now ∷ option.now ∷ list.now ∷ [])) }
+fn analyse_order<'a>(alloc: Global, words: &'a [String]) -> Result<Order<'a>, AllocError>
+    ensures { IfOk result (λ order. order_in order ≡ order_of (codes "analyse" ∷ texts_of words.now)) }
 {
-    if !(option == "--track" && is_operand(file) && is_operand(list)) {
-        return Order::Usage;
+    Ok(match parse_track(alloc, "analyse", "file", words)? {
+        Some(matches) => Order::Analyse {
+            file: value_of(&matches, "file"),
+            list: value_of(&matches, "track"),
+        },
+        None => Order::Usage,
+    })
+}
+
+fn certify_order<'a>(alloc: Global, words: &'a [String]) -> Result<Order<'a>, AllocError>
+    ensures { IfOk result (λ order. order_in order ≡ order_of (codes "cert" ∷ texts_of words.now)) }
+{
+    Ok(match parse_track(alloc, "cert", "file", words)? {
+        Some(matches) => Order::Certify {
+            file: value_of(&matches, "file"),
+            list: value_of(&matches, "track"),
+        },
+        None => Order::Usage,
+    })
+}
+
+fn list_order<'a>(alloc: Global, words: &'a [String]) -> Result<Order<'a>, AllocError>
+    ensures { IfOk result (λ order. order_in order ≡ order_of (codes "list" ∷ texts_of words.now)) }
+{
+    Ok(match parse_file(alloc, "list", words)? {
+        Some(matches) => Order::ListCode {
+            file: value_of(&matches, "file"),
+        },
+        None => Order::Usage,
+    })
+}
+
+fn generate_order<'a>(alloc: Global, words: &'a [String]) -> Result<Order<'a>, AllocError>
+    ensures { IfOk result (λ order. order_in order ≡ order_of (codes "gen" ∷ texts_of words.now)) }
+{
+    let Some(matches) = parse_track(alloc, "gen", "n", words)? else {
+        return Ok(Order::Usage);
+    };
+    Ok(match count_of(value_of(&matches, "n")) {
+        Some(n) => Order::Generate {
+            n,
+            list: value_of(&matches, "track"),
+        },
+        None => Order::Usage,
+    })
+}
+
+// The number that digits without zeros in front write, where it isn't above the greatest.
+fn count_of(text: &str) -> Option<u32>
+    ensures { result ≡ count_of text.now }
+{
+    if has_zeros(text) {
+        return None;
     }
-    if command == "analyse" {
-        Order::Analyse { file, list }
-    } else if command == "cert" {
-        Order::Certify { file, list }
+    let Some(n) = number_of(text) else {
+        return None;
+    };
+    if n <= MOST_COUNT {
+        Some(n as u32)
     } else {
-        Order::Usage
+        None
     }
 }
 
-fn list_order<'a>(command: &str, file: &'a str) -> Order<'a>
-    ensures { IsOrder result (order_of (command.now ∷ file.now ∷ [])) }
+fn has_zeros(text: &str) -> bool
+    ensures { result ≡ has_zeros text.now }
 {
-    if command == "list" && is_operand(file) {
-        Order::ListCode { file }
-    } else {
-        Order::Usage
+    text.len() > 1 && begins_with(text, b'0')
+}
+
+// The number that digits write.
+fn number_of(text: &str) -> Option<u64>
+    ensures { SomeIff result (IsNumeral 10 text.now × (digits_value 10 text.now < 2 ^ 64)) (digits_value 10 text.now) }
+{
+    if begins_with(text, b'+') {
+        return None;
+    }
+    match u64::from_str_radix(text, 10) {
+        Ok(number) => Some(number),
+        Err(_) => None,
     }
 }
 
-fn is_operand(word: &str) -> bool
-    ensures { result ≡ is_operand word.now }
+fn begins_with(text: &str, byte: u8) -> bool
+    requires { byte ≢ 0 }
+    ensures { result ≡ (slice_index text.now 0 == byte) }
 {
-    !word.starts_with('-')
+    match text.as_bytes() {
+        [first, ..] => *first == byte,
+        [] => false,
+    }
 }

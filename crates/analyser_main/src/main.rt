@@ -3,7 +3,8 @@
 //! `analyse FILE --track LIST` prints, for each instruction of an ELF file that can be reached, rows that
 //! generate all affine relations modulo 2^64 that hold there between 1 to 16 registers and frame slots
 //! and a constant, and which registers each procedure leaves as they were. `cert FILE --track LIST` prints
-//! the latter alone. `list FILE` prints the instructions themselves. `affine_main` takes the arguments
+//! the latter alone. `list FILE` prints the instructions themselves. `gen N --track LIST` analyses a file
+//! that is made from a number, and prints how much was found. `affine_main` takes the arguments
 //! after the program's name, files to read and a sink for the text, and gives the exit status: its
 //! clause says which text the sink gains, and why each status comes. `run_with` ends with that status;
 //! `main` calls it over the system's arguments, files and standard output.
@@ -18,18 +19,25 @@ mod cert_command;
 mod certs_text;
 #[cfg(test)]
 mod code_tests;
+mod command_words;
 mod commands;
 #[cfg(test)]
 mod compressed_tests;
 mod file_reply;
+mod gen_command;
+mod gen_text;
 mod list_command;
 mod names_text;
 mod points_list;
 mod refusal_lines;
 #[cfg(test)]
+mod symbol_tests;
+#[cfg(test)]
 mod tests;
 mod top_call;
 mod track_lines;
+#[cfg(test)]
+mod words_tests;
 
 use crate::top_call::run_with;
 use outside::{DiskFiles, StdSink};
@@ -43,6 +51,7 @@ pub enum Order<'a> {
     Analyse { file: &'a str, list: &'a str },
     Certify { file: &'a str, list: &'a str },
     ListCode { file: &'a str },
+    Generate { n: u32, list: &'a str },
 }
 
 /// What an order gets: a status with a text, or word of a fault or of want of memory.

@@ -105,7 +105,8 @@ const REPORT: &str =
 const LIST: &str =
     "affine-list 1\nproc 0x10078\n0x10078 00500513 addi a0,zero,5\n0x1007c 00100073 ebreak\nend\n";
 
-const USAGE: &str = "usage:\nanalyse FILE --track LIST\ncert FILE --track LIST\nlist FILE\n";
+const USAGE: &str =
+    "usage:\nanalyse FILE --track LIST\ncert FILE --track LIST\nlist FILE\ngen N --track LIST\n";
 
 pub(crate) const EBREAK: u32 = 0x00100073;
 
@@ -130,8 +131,9 @@ pub(crate) fn answer_to(
 #[test]
 fn orders_get_their_texts(rt: HostRuntime) -> Result<(), Fail> {
     let alloc = rt.alloc();
-    let cases: [(&str, usize, u8, &str); 27] = [
+    let cases: [(&str, usize, u8, &str); 28] = [
         ("analyse f --track x10", 128, 0, REPORT),
+        ("analyse --track=a0 f", 128, 0, REPORT),
         ("list f", 128, 0, LIST),
         ("cert f --track s0,fp", 128, 1, "refused Repeated 2\n"),
         ("cert g --track a0", 128, 3, "read fault\n"),
@@ -218,6 +220,36 @@ fn orders_get_their_texts(rt: HostRuntime) -> Result<(), Fail> {
     Ok(())
 }
 
+const ONE: &str = "affine-gen 1\nn 1\nbytes 164\npoints 11\nprocs 2\nrows 1\nunreached 0\nend\n";
+
+const FORTY: &str =
+    "affine-gen 1\nn 40\nbytes 1412\npoints 323\nprocs 41\nrows 201\nunreached 0\nend\n";
+
+// Orders over files that are made, with their statuses and texts.
+const MADE: [(&str, u8, &str); 7] = [
+    ("gen 1 --track a0", 0, ONE),
+    ("gen --track=a0 40", 0, FORTY),
+    ("gen 0 --track a0", 1, "refused Range 0\n"),
+    ("gen 101 --track ", 1, "refused Range 101\n"),
+    ("gen 100 --track ", 1, "refused Empty\n"),
+    (
+        "gen 2 --track a0,0x100c4:-8",
+        1,
+        "refused NoSuchProcedure 2\n",
+    ),
+    ("gen 007 --track a0", 2, USAGE),
+];
+
+#[test]
+fn generated_files(rt: HostRuntime) -> Result<(), Fail> {
+    for (order, status, text) in MADE {
+        let (answer, written) = answer_to(rt.alloc(), order, Vec::new(rt.alloc()), 4096)?;
+        assert_eq!(rt; answer, status, "{order}");
+        assert_eq!(rt; written.as_slice(), text.as_bytes(), "{order}");
+    }
+    Ok(())
+}
+
 pub(crate) const CALL: [u32; 4] = [0x00000097, 0x00c080e7, EBREAK, 0x00008067];
 
 const CALL_LIST: &str =
@@ -298,11 +330,11 @@ fn faults_have_their_status(rt: HostRuntime) -> Result<(), Fail> {
     };
     assert_eq!(rt; over_clean_files(alloc, &[], &mut none, &mut sink), 2);
     assert_eq!(rt; over_a_clean_sink(alloc, &[], &mut none, &mut sink), 2);
-    assert_eq!(rt; sink.taken, 132);
+    assert_eq!(rt; sink.taken, 170);
     // What can't be had of the arguments: no memory for them, or no text.
     for (kind, status, taken) in [
-        (ErrorKind::OutOfMemory, 5, 146),
-        (ErrorKind::InvalidData, 2, 212),
+        (ErrorKind::OutOfMemory, 5, 184),
+        (ErrorKind::InvalidData, 2, 269),
     ] {
         let words: io::Result<Vec<String>> = Err(io::Error::from(kind));
         let code = run_with(alloc, words, &mut none, &mut sink);

@@ -7,13 +7,16 @@ ghost use Rattle.report_text.specs.declared.reports.Report.{Report};
 ghost use Rattle.analyser_core.specs.MachineRuns.{TellsOfRuns};
 ghost use Rattle.analyser_core.specs.Reports.{IsReportOver};
 ghost use Rattle.analyser_core.specs.declared.cert_line.CertLine.{CertLine};
-ghost use Rattle.analyser_main.specs.Orders.{Usage, texts_of, order_of};
+ghost use Rattle.analyser_main.specs.Orders.{texts_of, order_of};
+ghost use Rattle.analyser_main.specs.OrdersRead.{order_in};
 ghost use Rattle.analyser_main.specs.Answers.{call, IsUsage, IsCarriedOut, Ends, Says, no_memory_text};
 ghost use Rattle.analyser_main.specs.Replies.{SaysReply};
+ghost use Rattle.analyser_main.specs.Completeness.{IsUnhindered, IsDone};
 
 use crate::analyse_command::reply_to_analyse;
 use crate::cert_command::reply_to_cert;
 use crate::commands::read_order;
+use crate::gen_command::reply_to_gen;
 use crate::list_command::reply_to_list;
 use crate::{Order, Reply};
 use analyser_core::reports_tell_of_runs;
@@ -23,7 +26,8 @@ use std::io;
 use std::io::ErrorKind;
 use std::process::ExitCode;
 
-const USAGE: &[u8] = b"usage:\nanalyse FILE --track LIST\ncert FILE --track LIST\nlist FILE\n";
+const USAGE: &[u8] =
+    b"usage:\nanalyse FILE --track LIST\ncert FILE --track LIST\nlist FILE\ngen N --track LIST\n";
 
 const READ_FAULT: &[u8] = b"read fault\n";
 
@@ -41,16 +45,31 @@ pub fn affine_main<F: Files, K: Sink>(
         (call F.contents F.faults K.written K.faults files.old files.new out.old out.new) result }
     // Where the sink's count rose, the answer says so.
     ensures counted { K.faults out.old < K.faults out.new → result ≡ 4 }
+    // Where nothing refuses what the order needs, it is done.
+    ensures completes { IsUnhindered (order_of (texts_of words.now)) (call F.contents F.faults K.written K.faults files.old files.new out.old out.new)
+        → IsDone (order_of (texts_of words.now)) (call F.contents F.faults K.written K.faults files.old files.new out.old out.new) result }
     // What a report says of each run of the machine that keeps the discipline.
     ensures runs { (bytes list : List ℕ) (report : Report) (certs : List CertLine)
         → IsReportOver bytes list report certs → TellsOfRuns bytes list report certs }
 {
     reports_tell_of_runs();
-    match read_order(words) {
+    match read_order(alloc, words) {
+        Ok(order) => carry_out(alloc, order, files, out),
+        Err(_) => say(out, 5, OUT_OF_MEMORY),
+    }
+}
+
+fn carry_out<F: Files, K: Sink>(alloc: Global, order: Order<'_>, files: &mut F, out: &mut K) -> u8
+    ensures carried_out { IsCarriedOut (order_in order.entry)
+        (call F.contents F.faults K.written K.faults files.old files.new out.old out.new) result }
+    ensures counted { K.faults out.old < K.faults out.new → result ≡ 4 }
+{
+    match order {
         Order::Usage => say(out, 2, USAGE),
         Order::Analyse { file, list } => say_reply(out, reply_to_analyse(alloc, files, file, list)),
         Order::Certify { file, list } => say_reply(out, reply_to_cert(alloc, files, file, list)),
         Order::ListCode { file } => say_reply(out, reply_to_list(alloc, files, file)),
+        Order::Generate { n, list } => say_reply(out, reply_to_gen(alloc, n, list)),
     }
 }
 

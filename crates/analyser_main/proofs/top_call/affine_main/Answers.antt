@@ -1,19 +1,18 @@
-use Rattle.std.proofs.Common.{refl}
-use Rattle.analyser_main.specs.Answers.{answered}
-use Rattle.analyser_main.proofs.RepliesGiven.{reply_ends}
+use Rattle.std.proofs.Common.{sym, subst}
+use Rattle.analyser_main.specs.Orders.{Order, order_of, texts_of}
+use Rattle.analyser_main.specs.Answers.{IsCarriedOut}
+use Rattle.analyser_main.proofs.RepliesGiven.{memory_wanting}
+use Rattle.analyser_main.proofs.OrdersDone.{order_done}
 use Rattle.analyser_main.proofs.top_call.affine_main.Goals as goal
 
-pub returns-in-Usage-clause-carried_out : goal.returns-in-Usage-clause-carried_out
-returns-in-Usage-clause-carried_out g c = rw c.in-Usage.ensures (answered _ 2 _ (record { status_is = refl; text_is = refl }) c.say.ensures.said)
+pub returns-in-Ok-clause-carried_out : goal.returns-in-Ok-clause-carried_out
+returns-in-Ok-clause-carried_out g c = rw (← c.in-Ok.ensures) c.carry_out.ensures.carried_out
 
-pub returns-in-Analyse-clause-carried_out : goal.returns-in-Analyse-clause-carried_out
-returns-in-Analyse-clause-carried_out g c =
-    rw c.in-Analyse.ensures (reply_ends _ _ _ c.reply_to_analyse.result _ c.reply_to_analyse.ensures c.say_reply.ensures.said)
+pub returns-in-Err-clause-carried_out : goal.returns-in-Err-clause-carried_out
+returns-in-Err-clause-carried_out g c = memory_wanting (order_of (texts_of c.args.words.now)) _ _ c.say.ensures.said
 
-pub returns-in-Certify-clause-carried_out : goal.returns-in-Certify-clause-carried_out
-returns-in-Certify-clause-carried_out g c =
-    rw c.in-Certify.ensures (reply_ends _ _ _ c.reply_to_cert.result _ c.reply_to_cert.ensures c.say_reply-in-Certify.ensures.said)
+pub returns-in-Ok-clause-completes : goal.returns-in-Ok-clause-completes
+returns-in-Ok-clause-completes g c = λ free. order_done _ _ _ free (returns-in-Ok-clause-carried_out g c)
 
-pub returns-in-ListCode-clause-carried_out : goal.returns-in-ListCode-clause-carried_out
-returns-in-ListCode-clause-carried_out g c =
-    rw c.in-ListCode.ensures (reply_ends _ _ _ c.reply_to_list.result _ c.reply_to_list.ensures c.say_reply-in-ListCode.ensures.said)
+pub returns-in-Err-clause-completes : goal.returns-in-Err-clause-completes
+returns-in-Err-clause-completes g c = λ free. order_done _ _ _ free (returns-in-Err-clause-carried_out g c)

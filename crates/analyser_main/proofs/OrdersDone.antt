@@ -1,0 +1,70 @@
+-- Orders whose input nothing refuses are done.
+use Rattle.std.proofs.Common.{◌≡◌, ℕ, List, Option, Some, None, inl, inr, refl, arith}
+use Rattle.gen_elf.specs.Generated.{IsInRange, IsOutOfRange}
+use Rattle.analyser_core.specs.Heads.{most_heads}
+use Rattle.analyser_core.specs.Accepted.{IsRefusal}
+use Rattle.analyser_core.specs.declared.cert_line.CertLine.{CertLine}
+use Rattle.analyser_core.specs.declared.refusal.Refusal.{Refusal}
+use Rattle.analyser_core.specs.declared.refusal.Refusal.TheVariants.{Elf, Flow, Track, Heads, Memory}
+use Rattle.report_text.specs.declared.reports.Report.{Report}
+use Rattle.analyser_main.specs.Orders.{Order, Usage, Analyse, Certify, ListCode, Generate}
+use Rattle.analyser_main.specs.Answers.{Call, IsRefused, too_long, no_image, bad_flow, report_text, IsAnswer, refused, no_list, crowded, analysed, IsListing, listed, IsGenAnswer, out_of_range, generated, IsAnswerOver, Ends, answered, read_fault, no_memory, IsCarriedOut}
+use Rattle.analyser_main.specs.CertsText.{certs_text}
+use Rattle.analyser_main.specs.GenText.{gen_text}
+use Rattle.analyser_main.specs.Replies.{IsListRefusal}
+use Rattle.analyser_main.specs.Completeness.{IsUnrefused, IsTold, IsUnhindered, Done, IsDone}
+
+answer_done : (told : Report → List CertLine → List ℕ) (list bytes : List ℕ) (status : ℕ) (text : List ℕ) →
+    IsUnrefused (IsRefusal bytes list) bytes → IsAnswer told list bytes status text → status ≡ 0
+answer_done told list bytes status text free (refused status' text' (too_long s t longer is line)) = let short = free.short in omega arith
+answer_done told list bytes status text free (refused status' text' (no_image s t refusal short why is line)) =
+    let memory = free.only_memory (Elf refusal) why in absurd (cc)
+answer_done told list bytes status text free (refused status' text' (bad_flow s t image refusal short of why is line)) =
+    let memory = free.only_memory (Flow refusal) (image, of, why) in absurd (cc)
+answer_done told list bytes status text free (no_list status' text' image points refusal short of has why other is line) =
+    let memory = free.only_memory (Track refusal) (image, points, of, has, why, other) in absurd (cc)
+answer_done told list bytes status text free (crowded status' text' short many is line) =
+    let memory = free.only_memory (Heads most_heads) (refl, many) in absurd (cc)
+answer_done told list bytes status text free (analysed status' text' report certs short what is line) = is
+
+listing_done : (bytes : List ℕ) (status : ℕ) (text : List ℕ) → IsUnrefused (IsListRefusal bytes) bytes → IsListing bytes status text → status ≡ 0
+listing_done bytes status text free (refused status' text' (too_long s t longer is line)) = let short = free.short in omega arith
+listing_done bytes status text free (refused status' text' (no_image s t refusal short why is line)) =
+    let memory = free.only_memory (Elf refusal) why in absurd (cc)
+listing_done bytes status text free (refused status' text' (bad_flow s t image refusal short of why is line)) =
+    let memory = free.only_memory (Flow refusal) (image, of, why) in absurd (cc)
+listing_done bytes status text free (listed status' text' short what is) = is
+
+in_range_only : (n : ℕ) → IsInRange n → IsOutOfRange n → ⊥
+in_range_only n within (inl below) = omega arith
+in_range_only n within (inr above) = omega arith
+
+gen_done : (n : ℕ) (list : List ℕ) (c : Call) (status : ℕ) (text : List ℕ) → IsUnhindered (Generate n list) c → IsGenAnswer n list status text →
+    status ≡ 0
+gen_done n list c status text (within, free) (out_of_range status' text' out is line) = absurd (in_range_only n within out)
+gen_done n list c status text (within, free) (generated status' text' bytes made is) =
+    answer_done (gen_text n bytes) list bytes status text (free bytes made) is
+
+ends_done : (Is IsToo : ℕ → List ℕ → Type 0) (Rose : Type 0) (c : Call) (answer : ℕ) →
+    ((status : ℕ) (text : List ℕ) → Is status text → IsToo status text) → Ends Is Rose c answer → Ends IsToo Rose c answer
+ends_done Is IsToo Rose c answer too (answered answer' status text is said) = answered answer' status text (too status text is) said
+ends_done Is IsToo Rose c answer too (read_fault answer' rose said) = read_fault answer' rose said
+ends_done Is IsToo Rose c answer too (no_memory answer' said) = no_memory answer' said
+
+over_done : (contents : Option (List ℕ)) (IsCause : List ℕ → Refusal → Type 0) (answer : List ℕ → ℕ → List ℕ → Type 0) →
+    ((bytes : List ℕ) (status : ℕ) (text : List ℕ) → IsUnrefused (IsCause bytes) bytes → answer bytes status text → status ≡ 0) →
+    IsTold contents (λ bytes. IsUnrefused (IsCause bytes) bytes) →
+    (status : ℕ) (text : List ℕ) → IsAnswerOver contents answer status text → IsAnswerOver contents (λ bytes. Done (answer bytes)) status text
+over_done (Some bytes) IsCause answer zero free status text is = (is, zero bytes status text free is)
+over_done None IsCause answer zero free status text is = absurd free
+
+pub order_done : (order : Order) (c : Call) (answer : ℕ) → IsUnhindered order c → IsCarriedOut order c answer → IsDone order c answer
+order_done Usage c answer free is = absurd free
+order_done (Analyse file list) c answer free is =
+    ends_done _ _ _ c answer (over_done (c.contents file) (λ bytes. IsRefusal bytes list) (IsAnswer report_text list) (answer_done report_text list) free) is
+order_done (Certify file list) c answer free is =
+    ends_done _ _ _ c answer (over_done (c.contents file) (λ bytes. IsRefusal bytes list) (IsAnswer certs_text list) (answer_done certs_text list) free) is
+order_done (ListCode file) c answer free is =
+    ends_done _ _ _ c answer (over_done (c.contents file) IsListRefusal IsListing listing_done free) is
+order_done (Generate n list) c answer free is =
+    ends_done _ _ _ c answer (λ status text is. (is, gen_done n list c status text free is)) is

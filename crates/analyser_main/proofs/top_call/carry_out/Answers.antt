@@ -1,0 +1,23 @@
+use Rattle.std.proofs.Common.{refl}
+use Rattle.analyser_main.specs.Answers.{answered}
+use Rattle.analyser_main.proofs.RepliesGiven.{reply_ends}
+use Rattle.analyser_main.proofs.top_call.carry_out.Goals as goal
+
+pub returns-in-Usage-clause-carried_out : goal.returns-in-Usage-clause-carried_out
+returns-in-Usage-clause-carried_out g c = rw c.in-Usage.is (answered _ 2 _ (record { status_is = refl; text_is = refl }) c.say.ensures.said)
+
+pub returns-in-Analyse-clause-carried_out : goal.returns-in-Analyse-clause-carried_out
+returns-in-Analyse-clause-carried_out g c =
+    rw c.in-Analyse.is (reply_ends _ _ _ c.reply_to_analyse.result _ c.reply_to_analyse.ensures c.say_reply.ensures.said)
+
+pub returns-in-Certify-clause-carried_out : goal.returns-in-Certify-clause-carried_out
+returns-in-Certify-clause-carried_out g c =
+    rw c.in-Certify.is (reply_ends _ _ _ c.reply_to_cert.result _ c.reply_to_cert.ensures c.say_reply-in-Certify.ensures.said)
+
+pub returns-in-ListCode-clause-carried_out : goal.returns-in-ListCode-clause-carried_out
+returns-in-ListCode-clause-carried_out g c =
+    rw c.in-ListCode.is (reply_ends _ _ _ c.reply_to_list.result _ c.reply_to_list.ensures c.say_reply-in-ListCode.ensures.said)
+
+pub returns-in-Generate-clause-carried_out : goal.returns-in-Generate-clause-carried_out
+returns-in-Generate-clause-carried_out g c =
+    rw c.in-Generate.is (reply_ends _ _ _ c.reply_to_gen.result _ c.reply_to_gen.ensures c.say_reply-in-Generate.ensures.said)
