@@ -52,8 +52,32 @@ impl Pages {
     }
 
     /// The number in the four bytes from an address on.
-    #[tactic(auto, using(elf_image::proofs::Laws::read_4))]
     pub(crate) fn word(&self, address: u64) -> u32
+        ensures { result ≡ read 4 (byte_of self.now) address }
+    {
+        if address % PAGE_SIZE <= PAGE_SIZE - 4 {
+            self.word_in_page(address)
+        } else {
+            self.word_by_bytes(address)
+        }
+    }
+
+    // The same where they lie in one page, which is looked up once.
+    #[tactic(auto, using(elf_image::proofs::Laws::read_4))]
+    fn word_in_page(&self, address: u64) -> u32
+        requires { address % 4096 ≤ 4092 }
+        ensures { result ≡ read 4 (byte_of self.now) address }
+    {
+        let at = (address % PAGE_SIZE) as usize;
+        match self.pages.get(&(address / PAGE_SIZE)) {
+            Some(page) => u32::from_le_bytes([page[at], page[at + 1], page[at + 2], page[at + 3]]),
+            None => 0,
+        }
+    }
+
+    // The same, byte after byte.
+    #[tactic(auto, using(elf_image::proofs::Laws::read_4))]
+    fn word_by_bytes(&self, address: u64) -> u32
         ensures { result ≡ read 4 (byte_of self.now) address }
     {
         u32::from_le_bytes([
@@ -69,7 +93,33 @@ impl Pages {
     pub(crate) fn double(&self, address: u64) -> u64
         ensures { result ≡ read 8 (byte_of self.now) address }
     {
-        u64::from(self.word(address)) + (u64::from(self.word(address.wrapping_add(4))) << 32)
+        if address % PAGE_SIZE <= PAGE_SIZE - 8 {
+            self.double_in_page(address)
+        } else {
+            u64::from(self.word(address)) + (u64::from(self.word(address.wrapping_add(4))) << 32)
+        }
+    }
+
+    // The same where they lie in one page, which is looked up once.
+    #[tactic(auto, using(elf_image::proofs::Laws::read_4, elf_image::proofs::Laws::read_8))]
+    fn double_in_page(&self, address: u64) -> u64
+        requires { address % 4096 ≤ 4088 }
+        ensures { result ≡ read 8 (byte_of self.now) address }
+    {
+        let at = (address % PAGE_SIZE) as usize;
+        match self.pages.get(&(address / PAGE_SIZE)) {
+            Some(page) => u64::from_le_bytes([
+                page[at],
+                page[at + 1],
+                page[at + 2],
+                page[at + 3],
+                page[at + 4],
+                page[at + 5],
+                page[at + 6],
+                page[at + 7],
+            ]),
+            None => 0,
+        }
     }
 
     /// The number in as many bytes as a store writes.
