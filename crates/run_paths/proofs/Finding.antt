@@ -29,7 +29,7 @@ find_is p (y ∷ ys) x there passes one =
     (λ later. find_is p ys x later passes (λ z at. one z (Contains-append_right (y ∷ []) ys z at)))
 
 module _ (points : FlowPoints) (has : HasCode points) where
-  one_code : (c d : CodePoint) → Contains points.points c → Contains points.points d → c.point ≡ d.point → c ≡ d
+  pub one_code : (c d : CodePoint) → Contains points.points c → Contains points.points d → c.point ≡ d.point → c ≡ d
   one_code c d there other is =
       let i = number_at points.points c there in
       let j = number_at points.points d other in

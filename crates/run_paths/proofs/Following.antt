@@ -37,7 +37,7 @@ module _ (image : Image) (lift : Lift) (is : IsLiftOf image lift) where
   -- the moment 0
   start_fetches : (m : Hart) → Starts image m → (c : CodePoint) → Contains lift.points.points c → FetchesAt m c
   start_fetches m starts c there =
-      let at = (code_of image lift is c there).instr.fetched in
+      let at = (code_of image lift.points is.points_are c there).instr.fetched in
       subst (λ (unit : ℕ). fetch unit m.code m.memory c.point.address ≡ Some (fetched_as c.word c.length)) (sym starts.unit)
       (subst (λ (code : List Range). fetch image.unit code m.memory c.point.address ≡ Some (fetched_as c.word c.length)) (sym starts.code)
       (fetch_loaded image m.memory c.point.address c.word c.length (fetched_small image c.point.address c.word c.length at) starts.bytes at))
@@ -62,7 +62,7 @@ module _ (image : Image) (lift : Lift) (is : IsLiftOf image lift) where
               (owner_there lift.points has (start lift.points.entry) place) (words.words 2) refl (start_has image lift is m)
               is_state,
         );
-        ready = ready_if_entered image lift is d.0 m.registers d.1 (at_start (d.2 ∙ ap start entry));
+        ready = ready_if_entered image lift.points is.points_are is.accepted d.0 m.registers d.1 (at_start (d.2 ∙ ap start entry));
         hart = starts.hart;
         fetches = start_fetches m starts;
       }

@@ -22,6 +22,7 @@ pub mod Making
 pub mod Turns
 pub mod Pairs
 pub mod Moments
+pub mod Leading
 pub mod Running
 pub mod Following
 pub mod Certifying

@@ -5,7 +5,7 @@ use Rattle.elf_image.specs.declared.image.Image.{Image}
 use Rattle.row_modules.specs.Positions.{has}
 use Rattle.flow_points.specs.Flows.{fetches_of}
 use Rattle.flow_points.specs.Walks.{point}
-use Rattle.flow_points.specs.PointLists.{ArePoints, HasCode, places_of}
+use Rattle.flow_points.specs.PointLists.{ArePoints, ArePointsOf, FlowPoints, HasCode, places_of}
 use Rattle.flow_points.specs.declared.code_points.CodePoint.{CodePoint}
 use Rattle.std.proofs.lemmas.List.Elements.{Contains-append_left, Contains-append_right}
 use Rattle.flow_points.proofs.Cited.{Contains-map, cons_cases}
@@ -25,12 +25,13 @@ Contains-flat_map f (z ∷ xs) x y there at =
       | inr later ↦ Contains-append_right (f z) (flat_map f xs) y (Contains-flat_map f xs x y later at)
     ]
 
+pub points_have_code : (image : Image) (points : FlowPoints) → ArePointsOf image points → HasCode points
+points_have_code image points are =
+    record { fetches = fetches_of image; are = subst (λ (e : ℕ). ArePoints (fetches_of image) e points) (sym are.entry_is) are }
+
 module _ (image : Image) (lift : Lift) (is : IsLiftOf image lift) where
   pub has_code : HasCode lift.points
-  has_code = record {
-    fetches = fetches_of image;
-    are = subst (λ (e : ℕ). ArePoints (fetches_of image) e lift.points) (sym is.points_are.entry_is) is.points_are;
-  }
+  has_code = points_have_code image lift.points is.points_are
 
   pub place : (c : CodePoint) → Contains lift.points.points c → Contains (places_of lift.points.points) c.point
   place c there = Contains-map (λ (d : CodePoint). d.point) lift.points.points c there

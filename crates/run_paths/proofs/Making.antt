@@ -9,6 +9,7 @@ use Rattle.rv_decode.specs.declared.instructions.Instr.{Instr}
 use Rattle.rvc_expand.specs.Lengths.{MeansWithLength}
 use Rattle.rvc_expand.proofs.Cited.{one_meaning}
 use Rattle.flow_points.specs.Flows.{fetches_of, HasUpper, Judged, base_of, flow_of, next, known, outside, unknown}
+use Rattle.flow_points.specs.PointLists.{ArePointsOf, FlowPoints}
 use Rattle.flow_points.specs.Sites.{IsCode}
 use Rattle.flow_points.specs.declared.code_points.CodePoint.{CodePoint}
 use Rattle.flow_points.specs.declared.code_points.Flow.{Flow}
@@ -18,8 +19,7 @@ use Rattle.flow_points.proofs.PointLaws.{in_range}
 use Rattle.rv_step.specs.Harts.{Hart}
 use Rattle.rv_step.specs.Steps.{Executes, Step}
 use Rattle.rv_step.specs.Words as machine
-use Rattle.run_paths.specs.Lifts.{Lift, IsLiftOf}
-use Rattle.run_paths.proofs.Lifted.{has_code}
+use Rattle.run_paths.proofs.Lifted.{points_have_code}
 use Rattle.run_paths.proofs.Fetching.{fetched_as}
 
 -- the machine fetches at a point what the point has
@@ -32,12 +32,12 @@ pub record HasFlowOf (image : Image) (c : CodePoint) : Type 0 where
   pub half : HasUpper (fetches_of image) c.point.address (base_of c.instr) upper
   pub is : (let flow : Result Flow FlowRefusal = Ok c.flow in flow) ≡ flow_of image.unit c.point.address (next c.point.address c.length) upper c.instr
 
-module _ (image : Image) (lift : Lift) (is : IsLiftOf image lift) (c : CodePoint) (there : Contains lift.points.points c) where
+module _ (image : Image) (points : FlowPoints) (are : ArePointsOf image points) (c : CodePoint) (there : Contains points.points c) where
   pub code_of : IsCode (fetches_of image) c
-  code_of = All-contains (IsCode (fetches_of image)) lift.points.points c is.points_are.code there
+  code_of = All-contains (IsCode (fetches_of image)) points.points c are.code there
 
   pub formed : IsWellFormed c.instr
-  formed = All-contains (λ d. IsWellFormed d.instr) lift.points.points c (in_range lift.points (has_code image lift is)) there
+  formed = All-contains (λ d. IsWellFormed d.instr) points.points c (in_range points (points_have_code image points are)) there
 
   pub flow_there : HasFlowOf image c
   flow_there = by code_of.flow

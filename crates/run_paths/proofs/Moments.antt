@@ -101,7 +101,7 @@ module _ (image : Image) (lift : Lift) (is : IsLiftOf image lift) where
   pub fetches_kept : (m n : Hart) → IsSameCode m n → LeavesCode lift m n → ((c : CodePoint) → Contains lift.points.points c → FetchesAt m c)
       → (c : CodePoint) → Contains lift.points.points c → FetchesAt n c
   fetches_kept m n same leaves fetches c there =
-      let small = fetched_small image c.point.address c.word c.length (code_of image lift is c there).instr.fetched in
+      let small = fetched_small image c.point.address c.word c.length (code_of image lift.points is.points_are c there).instr.fetched in
       subst (λ (unit : ℕ). fetch unit n.code n.memory c.point.address ≡ Some (fetched_as c.word c.length)) (sym same.unit)
       (subst (λ (code : List Range). fetch m.unit code n.memory c.point.address ≡ Some (fetched_as c.word c.length)) (sym same.code)
       (fetch_same m.unit m.code m.memory n.memory c.point.address c.word c.length small (fetches c there) (leaves c there)))

@@ -15,17 +15,17 @@ use Rattle.rvc_expand.specs.Lengths.{MeansWithLength, whole}
 use Rattle.rvc_expand.proofs.Cited.{one_meaning}
 use Rattle.flow_points.specs.Flows.{HasInstr, IsFirstHalf, IsSecondHalf, base_of, fetches_of, plus, prior, upper_offset}
 use Rattle.flow_points.specs.Walks.{IsEntered, IsPoint, by_flow, first_half_of, goes_on, most_points, successors_of}
+use Rattle.flow_points.specs.PointLists.{ArePointsOf, FlowPoints}
 use Rattle.flow_points.specs.Refusals.{HasCause, IsFlowRefusal, address_of, bad_point, into_pair, number_of, too_many}
 use Rattle.flow_points.specs.declared.code_points.Point.{Point}
 use Rattle.flow_points.specs.declared.code_points.CodePoint.{CodePoint}
 use Rattle.flow_points.specs.declared.refusal.FlowRefusal.{FlowRefusal}
 use Rattle.flow_points.specs.declared.refusal.FlowRefusal.TheVariants.{TooManyPoints, IntoPair}
 use Rattle.flow_points.proofs.SamePoint.{one_point}
-use Rattle.run_paths.specs.Lifts.{Lift, IsLiftOf}
 use Rattle.run_paths.proofs.Fetching.{fetched_as, fetched_bytes}
 use Rattle.run_paths.proofs.Making.{code_of}
 
-abbrev IsAccepted : Image → Type 0
+abbrev pub IsAccepted : Image → Type 0
 IsAccepted image = (refusal : FlowRefusal) → IsFlowRefusal image refusal → ⊥
 
 abbrev Bad : Image → Point → FlowRefusal → Type 0
@@ -129,11 +129,11 @@ jalr_alone (Fence rd rs1 imm) some = absurd (some refl)
 jalr_alone Ecall some = absurd (some refl)
 jalr_alone Ebreak some = absurd (some refl)
 
-module _ (image : Image) (lift : Lift) (is : IsLiftOf image lift) where
-  second_half : (c : CodePoint) (u : ℕ) → Contains lift.points.points c → IsFirstHalf (fetches_of image) c.point.address (base_of c.instr) u
+module _ (image : Image) (points : FlowPoints) (are : ArePointsOf image points) (accepted : IsAccepted image) where
+  second_half : (c : CodePoint) (u : ℕ) → Contains points.points c → IsFirstHalf (fetches_of image) c.point.address (base_of c.instr) u
       → IsSecondHalf (fetches_of image) c.point.address
   second_half c u there half =
-      let code = code_of image lift is c there in
+      let code = code_of image points are c there in
       let jalr = jalr_alone c.instr half.set in
       record {
         at = fetched_as c.word c.length;
@@ -145,20 +145,20 @@ module _ (image : Image) (lift : Lift) (is : IsLiftOf image lift) where
         first = half;
       }
 
-  pub reached : (c : CodePoint) → Contains lift.points.points c → IsPoint image c.point
-  reached c there = All-contains (λ d. IsPoint image d.point) lift.points.points c is.points_are.only there
+  pub reached : (c : CodePoint) → Contains points.points c → IsPoint image c.point
+  reached c there = All-contains (λ d. IsPoint image d.point) points.points c are.only there
 
   -- a point that is entered is no second half
-  pub ready_if_entered : (c : CodePoint) (regs : List ℕ) → Contains lift.points.points c → IsEntered (fetches_of image) image.entry c.point → IsReady image c regs
+  pub ready_if_entered : (c : CodePoint) (regs : List ℕ) → Contains points.points c → IsEntered (fetches_of image) image.entry c.point → IsReady image c regs
   ready_if_entered c regs there entered u half =
-      absurd (not_entered image is.accepted c.point (reached c there) (second_half c u there half) entered)
+      absurd (not_entered image accepted c.point (reached c there) (second_half c u there half) entered)
 
   -- where the flow goes on to a second half, it comes from the first half
-  pub from_first_half : (c d : CodePoint) (u : ℕ) → Contains lift.points.points c → Contains lift.points.points d
+  pub from_first_half : (c d : CodePoint) (u : ℕ) → Contains points.points c → Contains points.points d
       → Contains (successors_of c.point.proc_entry c.flow) d.point → IsFirstHalf (fetches_of image) d.point.address (base_of d.instr) u
       → (c.point ≡ first_half_of d.point) × (c.instr ≡ Auipc (base_of d.instr) u)
   from_first_half c d u there other goes half =
-      let code = code_of image lift is c there in
+      let code = code_of image points are c there in
       let same : c.point ≡ first_half_of d.point = by (cases_eq c.point.proc_entry d.point.proc_entry) (cases_eq c.point.address (prior d.point.address)) in (
         same,
         one_half image c.point.address c.word c.length (base_of d.instr) u c.instr code.instr.fetched code.instr.means half.word
@@ -167,8 +167,8 @@ module _ (image : Image) (lift : Lift) (is : IsLiftOf image lift) where
     where
       enters : c.point ≢ first_half_of d.point → c.point ≡ first_half_of d.point
       enters apart =
-          absurd (not_entered image is.accepted d.point (reached d other) (second_half d u other half)
-          (by_flow c.point c.flow (reached c there) (code_of image lift is c there).flow (goes_on goes apart)))
+          absurd (not_entered image accepted d.point (reached d other) (second_half d u other half)
+          (by_flow c.point c.flow (reached c there) (code_of image points are c there).flow (goes_on goes apart)))
 
       by : (c.point.proc_entry ≡ d.point.proc_entry) ⊎ (c.point.proc_entry ≢ d.point.proc_entry)
           → (c.point.address ≡ prior d.point.address) ⊎ (c.point.address ≢ prior d.point.address) → c.point ≡ first_half_of d.point

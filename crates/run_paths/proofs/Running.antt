@@ -1,23 +1,17 @@
 -- One step of a run that keeps the discipline.
-use Rattle.std.proofs.Common.{◌≡◌, ℕ, ◌+◌, ◌%◌, ◌^◌, ◌<◌, pos, List, [], ◌∷◌, Contains, slice_index, Option, None, Some, refl, ap, sym, ◌∙◌, arith, subst}
+use Rattle.std.proofs.Common.{◌≡◌, ℕ, List, [], ◌∷◌, Contains, Option, Some, refl, ap, sym, ◌∙◌, subst}
 use Rattle.elf_image.specs.declared.image.Image.{Image}
-use Rattle.rv_decode.specs.Instructions.{IsWellFormed}
-use Rattle.rv_decode.specs.declared.instructions.Instr.{Instr}
-use Rattle.rv_decode.specs.declared.instructions.Instr.TheVariants.{Auipc}
-use Rattle.flow_points.specs.Flows.{HasUpper, IsFirstHalf, base_of, fetches_of, flow_of, next, prior}
+use Rattle.flow_points.specs.Flows.{next}
 use Rattle.flow_points.specs.Walks.{by_flow, calls as calls_point, point, successors_of}
 use Rattle.flow_points.specs.declared.code_points.Point.{Point}
 use Rattle.flow_points.specs.declared.code_points.CodePoint.{CodePoint}
 use Rattle.flow_points.specs.declared.code_points.Flow.{Flow}
 use Rattle.flow_points.specs.declared.code_points.Flow.TheVariants.{Next, Jump, Branch, Call, Return, Halt}
-use Rattle.flow_points.proofs.Cited.{same_flow}
 use Rattle.flow_points.proofs.Lists.{first, second}
 use Rattle.frame_offsets.specs.Frames.{goes_on}
 use Rattle.rv_step.specs.Harts.{Hart}
 use Rattle.rv_step.specs.Effects.{written}
-use Rattle.rv_step.specs.Results as results
 use Rattle.rv_step.specs.Steps.{Executes, Step}
-use Rattle.rv_step.specs.Words as machine
 use Rattle.rv_step.proofs.HartsKept.{step_keeps_hart}
 use Rattle.run_paths.specs.Lifts.{Lift, IsLiftOf}
 use Rattle.run_paths.specs.Activations.{Activation, Site, called, turned_by}
@@ -25,27 +19,17 @@ use Rattle.run_paths.specs.Discipline.{LeavesCode, LeavesSlots, ReturnsToCaller,
 use Rattle.run_paths.specs.Follows.{closed, mapped_by, opening_at, stepped}
 use Rattle.run_paths.proofs.EffectsLand.{instr_lands}
 use Rattle.run_paths.proofs.Finding.{found, next_code}
+use Rattle.run_paths.proofs.Leading.{leads, no_pair_behind, plain_successors, ready_after}
 use Rattle.run_paths.proofs.Lifted.{has_code}
 use Rattle.run_paths.proofs.Linking.{Links}
 use Rattle.run_paths.proofs.Making.{code_of, executes, flow_there, formed}
-use Rattle.run_paths.proofs.Fetching.{fetched_small}
 use Rattle.run_paths.proofs.Moments.{LastStands, StandsAt, at_point, fetches_kept, gives_link, last_stands, none_stand, same_code, words_of_hart}
 use Rattle.run_paths.proofs.Moves.{moves}
 use Rattle.run_paths.proofs.States.{AreWords}
-use Rattle.run_paths.proofs.Numbers.{upper_word}
-use Rattle.run_paths.proofs.Pairs.{IsReady, from_first_half, reached, ready_if_entered}
+use Rattle.run_paths.proofs.Pairs.{IsReady, reached, ready_if_entered}
 use Rattle.run_paths.proofs.Standing.{AllStand, IsCalled}
 use Rattle.run_paths.proofs.Turning.{IsPlain, StateLands, all_stand_called, all_stand_on, all_stand_returned}
-use Rattle.run_paths.proofs.Turns.{KeepsMemory, TurnsBy, ends, enters, link_there, stays, turns}
-use Rattle.run_paths.proofs.Writing.{written_same}
-
-plain_successors : (p : ℕ) (flow : Flow) (to : Point) → IsPlain flow → Contains (goes_on p flow) to → Contains (successors_of p flow) to
-plain_successors p (Next n) to plain goes = goes
-plain_successors p (Jump t) to plain goes = goes
-plain_successors p (Branch n t) to plain goes = goes
-plain_successors p (Call t n) to plain goes = absurd plain
-plain_successors p Return to plain goes = goes
-plain_successors p Halt to plain goes = goes
+use Rattle.run_paths.proofs.Turns.{KeepsMemory, TurnsBy, ends, enters, link_there, stays}
 
 plain_turn : (c : CodePoint) (flow : Flow) (m : Hart) (activations : List Activation) → IsPlain flow → turned_by c flow m activations ≡ activations
 plain_turn c (Next n) m activations plain = refl
@@ -64,27 +48,15 @@ plain_map lift c (Call t k) m n a earlier f maps plain = absurd plain
 plain_map lift c Return m n a earlier f maps plain = absurd plain
 plain_map lift c Halt m n a earlier f maps plain = refl
 
--- the register of a pair, after its first half
 module _ (image : Image) (lift : Lift) (is : IsLiftOf image lift) where
-  ready_after : (c d : CodePoint) (m n : Hart) (after : ℕ) → m.pc ≡ c.point.address → AreWords m.registers → Contains lift.points.points c
-      → Contains lift.points.points d → Contains (successors_of c.point.proc_entry c.flow) d.point → Executes c.instr after m n → IsReady image d n.registers
-  ready_after c d m n after pc words there other goes made u half =
-      let from = from_first_half image lift is c d u there other goes half in
-      let auipc : Executes (Auipc (base_of d.instr) u) after m n = subst (λ (i : Instr). Executes i after m n) from.1 made in
-      let low : base_of d.instr < 32 = (subst IsWellFormed from.1 (formed image lift is c there)).0 in
-      ap (λ (regs : List ℕ). slice_index regs (base_of d.instr)) auipc.registers
-      ∙ written_same m.registers (base_of d.instr) (machine.word (pos (m.pc + results.upper u))) half.set (omega (arith, low, words.count))
-      ∙ ap (λ (a : ℕ). (a + results.upper u) % 2 ^ 64) (pc ∙ ap (λ (q : Point). q.address) from.0)
-      ∙ ap (λ (w : ℕ). (prior d.point.address + w) % 2 ^ 64) (upper_word u)
-
   pub links_there : (c : CodePoint) (target to : ℕ) → Contains lift.points.points c → c.flow ≡ Call target to → Links lift c to
   links_there c target to there flow =
-      let fl = flow_there image lift is c there in
+      let fl = flow_there image lift.points is.points_are c there in
       (link_there lift c c.point.address image.unit (next c.point.address c.length) target to flow c.instr fl.upper fl.is).effect_is
 
   pub link_behind : (c : CodePoint) (target to : ℕ) → Contains lift.points.points c → c.flow ≡ Call target to → to ≡ next c.point.address c.length
   link_behind c target to there flow =
-      let fl = flow_there image lift is c there in
+      let fl = flow_there image lift.points is.points_are c there in
       (link_there lift c c.point.address image.unit (next c.point.address c.length) target to flow c.instr fl.upper fl.is).behind
 
   -- one step, whatever its instruction
@@ -107,23 +79,10 @@ module _ (image : Image) (lift : Lift) (is : IsLiftOf image lift) where
     there = last.stands.within
 
     made : Executes c.instr after m n
-    made = executes image lift is c there m n h.pc (h.fetches c there) s
-
-    small : c.point.address < 2 ^ 64
-    small = fetched_small image c.point.address c.word c.length (code_of image lift is c there).instr.fetched
+    made = executes image lift.points is.points_are c there m n h.pc (h.fetches c there) s
 
     pub turn : TurnsBy c.point.proc_entry c.flow after m n
-    turn =
-        let fl = flow_there image lift is c there in
-        turns c.point.proc_entry c.point.address image.unit after c.flow m n h.pc small words c.instr fl.upper fl.is (formed image lift is c there) made
-        (λ u some. h.ready u (half u fl.upper some fl.half))
-      where
-        half : (u : ℕ) (upper : Option ℕ) → upper ≡ Some u → HasUpper (fetches_of image) c.point.address (base_of c.instr) upper
-            → IsFirstHalf (fetches_of image) c.point.address (base_of c.instr) u
-        half u None some is_half = cc
-        half u (Some v) some is_half =
-            let same : v ≡ u = cc in
-            subst (λ (w : ℕ). IsFirstHalf (fetches_of image) c.point.address (base_of c.instr) w) same is_half
+    turn = leads image lift.points is.points_are c there m n h.pc words h.ready made
 
     standing : (b : Activation) (rest : List Activation) (fs : List (List ℕ)) (d : CodePoint) → Contains lift.points.points d
         → d.point ≡ point b.procedure n.pc → AllStand lift start n.memory (b ∷ rest) fs d n.registers → IsReady image d n.registers
@@ -140,7 +99,7 @@ module _ (image : Image) (lift : Lift) (is : IsLiftOf image lift) where
 
     lands : StateLands lift a c m n
     lands =
-        instr_lands image lift is a c m n (at_point image lift is m a f c last.entered h.pc words last.stands) c.instr after (formed image lift is c there)
+        instr_lands image lift is a c m n (at_point image lift is m a f c last.entered h.pc words last.stands) c.instr after (formed image lift.points is.points_are c there)
         leaves.own made (gives_link lift a m.registers m.memory c.flow after words (λ target to flow. link_behind c target to there flow))
 
     within_last : IsPlain c.flow → Contains (goes_on c.point.proc_entry c.flow) (point c.point.proc_entry n.pc)
@@ -151,8 +110,8 @@ module _ (image : Image) (lift : Lift) (is : IsLiftOf image lift) where
         let to = subst (λ (q : Point). Contains (goes_on c.point.proc_entry c.flow) q) (sym d.2) onto in
         standing a earlier (stepped lift a c n f ∷ maps) d.0 d.1 (d.2 ∙ ap (λ (p : ℕ). point p n.pc) last.stands.owner)
         (all_stand_on image lift is start a earlier f maps m n c d.0 plain d.1 to
-        (λ r from source. moves c.instr c.flow after m n r from plain words (formed image lift is c there) made source) lands leaves h.all)
-        (ready_after c d.0 m n after h.pc words there d.1 (subst (Contains (successors_of c.point.proc_entry c.flow)) (sym d.2) onward) made)
+        (λ r from source. moves c.instr c.flow after m n r from plain words (formed image lift.points is.points_are c there) made source) lands leaves h.all)
+        (ready_after image lift.points is.points_are is.accepted c d.0 m n after h.pc words there d.1 (subst (Contains (successors_of c.point.proc_entry c.flow)) (sym d.2) onward) made)
 
     into_callee : (target : ℕ) → c.flow ≡ Call target after → n.pc ≡ target → n.registers ≡ written m.registers 1 after → KeepsMemory m n
         → StandsAt image lift start n (called c target after m ∷ a ∷ earlier) (opening_at lift (called c target after m) n.memory ∷ f ∷ maps)
@@ -163,8 +122,8 @@ module _ (image : Image) (lift : Lift) (is : IsLiftOf image lift) where
         standing (called c target after m) (a ∷ earlier) (opening_at lift (called c target after m) n.memory ∷ f ∷ maps) d.0 d.1
         (d.2 ∙ ap (point target) (sym pc))
         (all_stand_called image lift is start a earlier (f ∷ maps) m n c d.0 target after flow words now memory d.1 d.2 h.all)
-        (ready_if_entered image lift is d.0 n.registers d.1
-        (by_flow c.point c.flow (reached image lift is c there) (code_of image lift is c there).flow (calls_point target after flow d.2)))
+        (ready_if_entered image lift.points is.points_are is.accepted d.0 n.registers d.1
+        (by_flow c.point c.flow (reached image lift.points is.points_are is.accepted c there) (code_of image lift.points is.points_are c there).flow (calls_point target after flow d.2)))
 
   -- back in the caller
   record IsCaller (a b : Activation) : Type 0 where
@@ -178,16 +137,6 @@ module _ (image : Image) (lift : Lift) (is : IsLiftOf image lift) where
   caller start memory a b earlier f g maps c regs h =
       let stands = (last_stands lift start memory b earlier g maps h.0.from a.registers h.3).stands in
       record { site = h.0; is_call = h.1; within = stands.within; owner = stands.owner }
-
-  no_pair_behind : (c d : CodePoint) (target to : ℕ) (regs : List ℕ) → Contains lift.points.points c → Contains lift.points.points d
-      → c.flow ≡ Call target to → Contains (successors_of c.point.proc_entry c.flow) d.point → IsReady image d regs
-  no_pair_behind c d target to regs there other flow goes u half =
-      let from = from_first_half image lift is c d u there other goes half in
-      let fl = flow_there image lift is c there in
-      let next_flow = same_flow c.flow (Next (next c.point.address c.length))
-      (fl.is ∙ ap (flow_of image.unit c.point.address (next c.point.address c.length) fl.upper) from.1) in
-      let clash : Next (next c.point.address c.length) ≡ Call target to = sym next_flow ∙ flow in
-      cc clash
 
   back_in_caller : (start : List ℕ) (m n : Hart) (a b : Activation) (earlier : List Activation) (f g : List ℕ) (maps : List (List ℕ))
       (h : StandsAt image lift start m (a ∷ b ∷ earlier) (f ∷ g ∷ maps)) → Step m n → LeavesSlots lift m n h.at a (b ∷ earlier) → LeavesCode lift m n
@@ -207,7 +156,7 @@ module _ (image : Image) (lift : Lift) (is : IsLiftOf image lift) where
       flow now memory d.1
       (λ site called. subst (λ (t : Site). d.0.point ≡ point t.from.point.proc_entry t.next) (one_site called by.is_call.from) d.2)
       restores h.all)
-      (no_pair_behind from d.0 a.procedure by.site.next n.registers by.within d.1 by.is_call.flow (subst (Contains (successors_of from.point.proc_entry from.flow)) (sym d.2) onward))
+      (no_pair_behind image lift.points is.points_are is.accepted from d.0 a.procedure by.site.next n.registers by.within d.1 by.is_call.flow (subst (Contains (successors_of from.point.proc_entry from.flow)) (sym d.2) onward))
     where
       one_site : {o : Option Site} {s t : Site} → o ≡ Some s → o ≡ Some t → t ≡ s
       one_site e f = cc

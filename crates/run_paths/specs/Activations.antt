@@ -6,7 +6,8 @@
 --                                 one, and the registers of the moment of that call
 --   begun lift m                  the activation of the entry procedure, at the moment 0
 --   called c target next m        the activation of a call from the point c
---   turned c m activations        the activations after a step from the point c: a call opens one, a return closes the last
+--   turned_by c flow m activations, and turned c m activations by the flow of c
+--                                 the activations after a step from the point c: a call opens one, a return closes the last
 --                                 one, and every other step leaves them
 --   point_of lift m activations   the point where a machine is: its pc, in the procedure of the last activation
 --   activations_at lift run i     the activations at the moment i

@@ -7,7 +7,7 @@
 --                                state has
 --   stepped lift a c n f         the map f, and then what the point c assigns, under the choice that the machine n shows
 --   closed lift call b f g       the map g of a caller b, and then this call, whole, whose callee has the map f
---   mapped lift c m n activations maps
+--   mapped_by lift c flow m n activations maps, and mapped lift c m n activations maps by the flow of c
 --                                the maps after a step from m to n at the point c: a call opens a level path, a
 --                                return makes one the callee's part of its caller's, and every other step adds an edge
 --   path_of lift run i           the path up to the moment i

@@ -28,12 +28,12 @@ pub record TellsCode (lift : Lift) (code : List CodeAt) : Type 0 where
 
 module _ (image : Image) (lift : Lift) (is : IsLiftOf image lift) where
   code_small : (c : CodePoint) → Contains lift.points.points c → c.point.address < 2 ^ 64
-  code_small c there = fetched_small image c.point.address c.word c.length (code_of image lift is c there).instr.fetched
+  code_small c there = fetched_small image c.point.address c.word c.length (code_of image lift.points is.points_are c there).instr.fetched
 
   code_short : (c : CodePoint) → Contains lift.points.points c → c.length ≤ 4
   code_short c there =
       let bytes = fetched_bytes image.unit (executable_ranges image.segments) (loaded image) c.point.address c.word c.length
-      (code_of image lift is c there).instr.fetched in
+      (code_of image lift.points is.points_are c there).instr.fetched in
       subst (λ (l : ℕ). l ≤ 4) bytes.0 (two_or_four (image.unit == 2 && not (loaded image c.point.address % 4 == 3)))
     where
       two_or_four : (t : Bool) → (if t then 2 else 4) ≤ 4

@@ -30,7 +30,7 @@ module _ (image : Image) (lift : Lift) (is : IsLiftOf image lift) (m n : Hart) (
     (same : KeepsAllBytes m n) where
   no_return : Contains lift.points.points c → c.flow ≡ Return → ⊥
   no_return there flow =
-      let h = flow_there image lift is c there in
+      let h = flow_there image lift.points is.points_are c there in
       let goes = same_flow c.flow (Next (next c.point.address c.length))
       (h.is ∙ ap (flow_of image.unit c.point.address (next c.point.address c.length) h.upper) ecall) in
       let clash : Next (next c.point.address c.length) ≡ Return = sym goes ∙ flow in cc

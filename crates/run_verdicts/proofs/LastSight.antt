@@ -1,7 +1,7 @@
 -- What watches see where a run stops.
 use Rattle.std.proofs.Common.{◌≡◌, ◌⊎◌, ℕ, List, [], ◌∷◌, inl, inr}
 use Rattle.flow_points.specs.declared.code_points.CodePoint.{CodePoint}
-use Rattle.run_watch.specs.Runs.{Describes, Ends, IsAtPoint, Scene, Sight, Spot, altered, budget, deep, leaves, lost, steps_of, stops, strays}
+use Rattle.run_watch.specs.Runs.{Describes, Ends, IsAtPoint, Scene, Sight, Spot, altered, budget, deep, leaves, lost, lost_at_limit, steps_of, stops, strays}
 use Rattle.run_watch.specs.declared.stops.RunStop.{RunStop}
 
 pub record IsLastSight (scene : Scene) (a : Spot) (after : List Sight) : Type 0 where
@@ -16,7 +16,8 @@ pub record IsLastSight (scene : Scene) (a : Spot) (after : List Sight) : Type 0 
 pub last_sight : (scene : Scene) (limit : ℕ) (a : Spot) (after : List Sight) (steps : ℕ) (stop : RunStop)
     → Ends scene limit a after steps stop
     → (after ≡ []) ⊎ IsLastSight scene a after
-last_sight scene limit a after steps stop (lost out none count why) = inl none
+last_sight scene limit a after steps stop (lost_at_limit out at none count why) = inl none
+last_sight scene limit a after steps stop (lost out more none count why) = inl none
 last_sight scene limit a after steps stop (budget i c s at spent closing is count why) =
     inr (record { s = s; is = is; i = i; c = c; at = at; moment = closing.moment; index = closing.closing.index })
 last_sight scene limit a after steps stop (altered i c at more other none count why) = inl none

@@ -36,3 +36,9 @@ mod Watched
 mod Counted
 mod Caused
 mod Ecalls
+mod WordThere
+mod Calls
+mod Onto
+mod OnPoints
+mod AtPoints
+mod LeftFor

@@ -13,7 +13,7 @@ use Rattle.run_verdicts.specs.Seen.{AreSeen, IsSeen, IsStackSeen}
 use Rattle.run_verdicts.proofs.Relying.{relied_seen}
 
 -- the last item of a list, and those before it
-record IsSameEnd (xs ys : List Watched) (x y : Watched) : Type 0 where
+pub record IsSameEnd (xs ys : List Watched) (x y : Watched) : Type 0 where
   pub before : xs ≡ ys
   pub last : x ≡ y
 
@@ -21,7 +21,7 @@ pub never_empty : (xs : List Watched) (x : Watched) → xs ++ x ∷ [] ≡ [] �
 never_empty [] x e = cc
 never_empty (w ∷ xs) x e = cc
 
-same_end : (xs ys : List Watched) (x y : Watched) → xs ++ x ∷ [] ≡ ys ++ y ∷ [] → IsSameEnd xs ys x y
+pub same_end : (xs ys : List Watched) (x y : Watched) → xs ++ x ∷ [] ≡ ys ++ y ∷ [] → IsSameEnd xs ys x y
 same_end [] [] x y e = record { before = refl; last = (let same : x ≡ y = cc in same) }
 same_end [] (v ∷ ys) x y e = absurd (never_empty ys y (let tails : [] ≡ ys ++ y ∷ [] = cc in sym tails))
 same_end (w ∷ xs) [] x y e = absurd (never_empty xs x (let tails : xs ++ x ∷ [] ≡ [] = cc in tails))

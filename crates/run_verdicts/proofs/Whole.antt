@@ -7,7 +7,7 @@ use Rattle.flow_points.proofs.Cited.{all_one}
 use Rattle.report_text.specs.declared.reports.Report.{Report}
 use Rattle.rv_step.specs.Harts.{Hart}
 use Rattle.run_paths.specs.Lifts.{Lift}
-use Rattle.run_watch.specs.Runs.{Ends, Scene, Sight, Spot, altered, budget, deep, leaves, lost, scene_of, stops, strays, verdict}
+use Rattle.run_watch.specs.Runs.{Ends, Scene, Sight, Spot, altered, budget, deep, leaves, lost, lost_at_limit, scene_of, stops, strays, verdict}
 use Rattle.run_watch.specs.declared.stops.RunStop.{RunStop}
 use Rattle.run_verdicts.specs.Runs.{IsSeenRun}
 use Rattle.run_verdicts.specs.Seen.{IsSceneOf}
@@ -55,7 +55,8 @@ module _ (image : Image) (lift : Lift) (scene : Scene) (limit : ℕ) (is : IsSce
   whole_by : (seen after : List Sight) (steps : ℕ) (stop : RunStop) → seen ≡ before ++ after
       → Ends scene limit last after steps stop
       → IsWholeSeen image lift limit seen
-  whole_by seen after steps stop all (lost out none count why) = nothing_behind seen after all none
+  whole_by seen after steps stop all (lost_at_limit out at none count why) = nothing_behind seen after all none
+  whole_by seen after steps stop all (lost out more none count why) = nothing_behind seen after all none
   whole_by seen after steps stop all (budget i c s at spent closing is_after count why) =
       one_behind seen after s all is_after closing.closing.made
   whole_by seen after steps stop all (altered i c at more other none count why) = nothing_behind seen after all none

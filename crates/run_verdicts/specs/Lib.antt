@@ -5,3 +5,4 @@ pub mod Runs
 pub mod Whole
 pub mod Relations
 pub mod Environment
+pub mod Points

@@ -2,6 +2,7 @@
 
 ghost use Rattle.run_verdicts.specs.Changes.{RecordsTellChanges};
 ghost use Rattle.run_verdicts.specs.Findings.{WatchesTell};
+ghost use Rattle.run_verdicts.specs.Points.{RunsEndAtPoints, RunsLeaveForCause};
 ghost use Rattle.run_verdicts.specs.Runs.{QuietRunsKeepDiscipline, StrayReturnsAreFound, VerdictsFindFirstBreaches, WatchedRunsAreRuns};
 ghost use Rattle.run_verdicts.specs.Whole.{RecordsAreCounted, WholeRunsAreRuns};
 ghost use Rattle.run_verdicts.specs.Environment.{QuietEcallsKeepRules};
@@ -64,4 +65,15 @@ pub fn failures_are_caused()
 /// The discipline allows ECALL steps: one after which no byte of memory differs keeps its rules, whatever it leaves in registers.
 pub fn quiet_ecalls_keep_rules()
     ensures { QuietEcallsKeepRules }
+{}
+
+/// Wherever a run of accepted code comes, it is at a point of the file, and ends there otherwise than by an instruction that
+/// isn't fetched or means nothing.
+pub fn runs_end_at_points()
+    ensures { RunsEndAtPoints }
+{}
+
+/// So such a run leaves only where an instruction's word was changed, or by a return that goes elsewhere than to its caller.
+pub fn runs_leave_for_cause()
+    ensures { RunsLeaveForCause }
 {}

@@ -1,6 +1,7 @@
 //! Runs of small files under the four watches, and the step at which each first finds something: runs that keep the
-//! discipline to their ends, and runs that keep it exactly up to a step.
+//! discipline to their ends, and runs that keep it exactly up to a step. And how many records a watch behind the four sees.
 
+ghost use Rattle.std.specs.Prelude.{◌≤◌};
 ghost use Rattle.flow_points.specs.PointLists.{ArePointsOf};
 ghost use Rattle.frame_offsets.specs.Frames.{AreOffsetsOf};
 
@@ -10,8 +11,10 @@ use flow_points::{Points, recover};
 use frame_offsets::{Offsets, offsets};
 use report_text::Report;
 use run_watch::{
-    CodeWatch, RelationWatch, ReturnWatch, RunStop, RunVerdict, StoreWatch, Watch, check_run,
+    CodeWatch, Found, RelationWatch, ReturnWatch, RunStop, RunVerdict, StoreWatch, Watch, WatchCtx,
+    check_run,
 };
+use rv_step::StepRec;
 use sqlite_items::Items;
 use std::alloc::Global;
 use std::test::Fail;
@@ -47,8 +50,59 @@ fn file_of(alloc: Global, words: &[u32]) -> Result<Vec<u8>, Fail> {
     Ok(bytes)
 }
 
-/// A run with sp at 0x20000 and a0 at 3, against a report that tells of no point.
+/// Kind 9: counts the records that it sees.
+#[derive(Drop)]
+struct CountWatch {
+    count: u64,
+}
+
+impl Watch for CountWatch {
+    ghost use Rattle.std.specs.Prelude.{Some};
+
+    ghost kind_of = { λ w. 9 };
+
+    ghost state = { λ w. Some (record { index = w.count; address = 0; detail = 0 }) };
+
+    fn kind(&self) -> u8 {
+        9
+    }
+
+    fn see(&mut self, _ctx: &WatchCtx, _rec: &StepRec) {
+        self.count = self.count.saturating_add(1);
+    }
+
+    fn found(&self) -> Option<Found> {
+        Some(Found {
+            index: self.count,
+            address: 0,
+            detail: 0,
+        })
+    }
+}
+
+/// Which watches see a run: none, the four, or the four and then one that counts records.
+#[derive(Clone, Copy, PartialEq, Eq)]
+enum Watches {
+    None,
+    Four,
+    Five,
+}
+
+/// A run with sp at 0x20000 and a0 at 3 under the four watches, against a report that tells of no point.
 fn run(alloc: Global, words: &[u32], list: &str) -> Result<RunVerdict, Fail> {
+    run_under(alloc, words, list, 1000, Watches::Four)
+}
+
+/// Such a run of at most so many steps, under these watches.
+fn run_under(
+    alloc: Global,
+    words: &[u32],
+    list: &str,
+    steps: u64,
+    which: Watches,
+) -> Result<RunVerdict, Fail>
+    requires steps { steps ≤ 1000000000 }
+{
     let image = read_image(alloc, &file_of(alloc, words)?)?;
     let points = recover(alloc, &image)?;
     let offsets = offsets(alloc, &points)?;
@@ -61,7 +115,9 @@ fn run(alloc: Global, words: &[u32], list: &str) -> Result<RunVerdict, Fail> {
     let mut regs = [0; 32];
     regs[2] = 0x2_0000;
     regs[10] = 3;
-    watched(alloc, &image, &points, &offsets, &report, regs)
+    watched(
+        alloc, &image, &points, &offsets, &report, regs, steps, which,
+    )
 }
 
 fn watched(
@@ -71,16 +127,24 @@ fn watched(
     offsets: &Offsets,
     report: &Report,
     regs: [u64; 32],
+    steps: u64,
+    which: Watches,
 ) -> Result<RunVerdict, Fail>
+    requires steps { steps ≤ 1000000000 }
     requires points { ArePointsOf image.now points.now }
     requires offsets { AreOffsetsOf points.now offsets.now }
 {
     let mut watches: Vec<Box<dyn Watch>> = Vec::new(alloc);
-    watches.push(Box::new(alloc, RelationWatch::new())?)?;
-    watches.push(Box::new(alloc, StoreWatch::new())?)?;
-    watches.push(Box::new(alloc, ReturnWatch::new())?)?;
-    watches.push(Box::new(alloc, CodeWatch::new())?)?;
-    match check_run(alloc, image, points, offsets, report, regs, 1000, watches) {
+    if which != Watches::None {
+        watches.push(Box::new(alloc, RelationWatch::new())?)?;
+        watches.push(Box::new(alloc, StoreWatch::new())?)?;
+        watches.push(Box::new(alloc, ReturnWatch::new())?)?;
+        watches.push(Box::new(alloc, CodeWatch::new())?)?;
+    }
+    if which == Watches::Five {
+        watches.push(Box::new(alloc, CountWatch { count: 0 })?)?;
+    }
+    match check_run(alloc, image, points, offsets, report, regs, steps, watches) {
         Ok(verdict) => Ok(verdict),
         Err(_) => Err(Fail::new("the run is refused")),
     }
@@ -95,6 +159,13 @@ fn told(verdict: &RunVerdict) -> (u64, RunStop, [Option<u64>; 4]) {
         }
     }
     (verdict.steps, verdict.stop, indices)
+}
+
+/// The steps that were made, why the run stopped, and how many records the watch behind the four saw.
+fn counted(verdict: &RunVerdict) -> (u64, RunStop, Option<u64>) {
+    let found = verdict.found.as_slice();
+    let fifth = if found.len() == 5 { found[4] } else { None };
+    (verdict.steps, verdict.stop, fifth.map(|f| f.index))
 }
 
 /// Start code that sets sp and calls main by a pair; main has a frame, in which it saves s0 and ra.
@@ -174,5 +245,55 @@ fn a_frame_pointer_that_is_lost(rt: HostRuntime) -> Result<(), Fail> {
         told(&verdict),
         (12, RunStop::Left(0), [None, None, Some(7), None])
     );
+    Ok(())
+}
+
+/// Seven steps and an EBREAK: a record of each step, and one of where the run stops.
+#[test]
+fn records_to_an_ebreak(rt: HostRuntime) -> Result<(), Fail> {
+    let words = [
+        0x00150513, 0x00150513, 0x00150513, 0x00150513, 0x00150513, 0x00150513, 0x00150513,
+        0x00100073,
+    ];
+    let verdict = run_under(rt.alloc(), &words, "a0", 1000, Watches::Five)?;
+    assert_eq!(rt; counted(&verdict), (7, RunStop::Break(0x1_0094), Some(8)));
+    Ok(())
+}
+
+/// The seventh step is a return of the first activation, behind which nothing is seen.
+#[test]
+fn records_to_a_return_elsewhere(rt: HostRuntime) -> Result<(), Fail> {
+    let words = [
+        0x00150513, 0x00150513, 0x00150513, 0x00150513, 0x00150513, 0x00150513, 0x00008067,
+    ];
+    let verdict = run_under(rt.alloc(), &words, "a0", 1000, Watches::Five)?;
+    assert_eq!(rt; counted(&verdict), (7, RunStop::Left(0), Some(7)));
+    Ok(())
+}
+
+/// A run of no step is seen where it stops.
+#[test]
+fn a_record_of_no_step(rt: HostRuntime) -> Result<(), Fail> {
+    let verdict = run_under(
+        rt.alloc(),
+        &[0x00150513, 0x00100073],
+        "a0",
+        0,
+        Watches::Five,
+    )?;
+    assert_eq!(rt; counted(&verdict), (0, RunStop::Budget, Some(1)));
+    Ok(())
+}
+
+/// With no watches nothing is found.
+#[test]
+fn no_watches(rt: HostRuntime) -> Result<(), Fail> {
+    let words = [0x00150513, 0x00100073];
+    let verdict = run_under(rt.alloc(), &words, "a0", 1000, Watches::None)?;
+    assert_eq!(rt;
+        (verdict.steps, verdict.stop),
+        (1, RunStop::Break(0x1_007c))
+    );
+    assert!(rt; verdict.found.as_slice().is_empty());
     Ok(())
 }

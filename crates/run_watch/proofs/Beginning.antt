@@ -1,5 +1,5 @@
 -- The run of an image begins.
-use Rattle.std.proofs.Common.{◌≡◌, ℕ, ◌≤◌, List, [], Option, slice_set, sym, subst, ◌∙◌, ap}
+use Rattle.std.proofs.Common.{◌≡◌, ℕ, List, [], Option, slice_set, sym, subst, ◌∙◌, ap}
 use Rattle.elf_image.specs.Images.{loaded}
 use Rattle.elf_image.specs.declared.image.Image.{Image}
 use Rattle.flow_points.specs.PointLists.{FlowPoints}
@@ -11,7 +11,7 @@ use Rattle.run_watch.specs.declared.context.Found.{Found}
 use Rattle.run_watch.specs.declared.places.CodeAt.{CodeAt}
 use Rattle.run_watch.specs.declared.stops.RunStop.{RunStop}
 use Rattle.run_watch.specs.Activations.{Stack, begun}
-use Rattle.run_watch.specs.Runs.{Spot, Sight, scene_of, AreInstructionsOf, IsWatched, IsRunOf, HasSeen, IsVerdict}
+use Rattle.run_watch.specs.Runs.{Sight, scene_of, AreInstructionsOf, IsWatched, IsRunOf, HasSeen, IsVerdict}
 
 pub run_of : (image : Image) (points : FlowPoints) (offsets : List (Option ℕ)) (report : Report) (regs : List ℕ) (limit : ℕ)
     (code : List CodeAt) (machine : Machine) (stack : Stack) (entry : ℕ) (here : List ℕ) (seen : List Sight) (steps made : ℕ) (stop : RunStop)

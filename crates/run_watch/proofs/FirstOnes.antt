@@ -1,5 +1,5 @@
 -- The first item of a list for which something holds.
-use Rattle.std.proofs.Common.{◌≡◌, ◌↔◌, ℕ, ◌+◌, ◌<◌, ◌≤◌, Bool, true, false, not, is_some, IsTrue, List, [], ◌∷◌, length, drop, get_or, slice_get, Contains, Option, None, Some, Result, Ok, Err, IfSome, IfNone, IsSomeAnd, sym, subst, ap, ◌∙◌, inl, inr, refl}
+use Rattle.std.proofs.Common.{◌≡◌, ◌↔◌, ℕ, ◌+◌, ◌<◌, ◌≤◌, Bool, true, false, not, is_some, IsTrue, List, [], ◌∷◌, length, drop, get_or, slice_get, Contains, Option, None, Some, Result, Err, IfSome, IfNone, IsSomeAnd, sym, subst, ap, ◌∙◌, inl, inr, refl}
 use Rattle.std.proofs.lemmas.Bool.{false≢true}
 use Rattle.std.proofs.lemmas.List.{drop_more, drop_all}
 use Rattle.flow_points.specs.PointLists.{FlowPoints, places_of}

@@ -5,7 +5,7 @@ use Rattle.std.proofs.Common.{◌≡◌, ◌≢◌, ℕ, ◌+◌, ◌<◌, ◌�
 use Rattle.std.specs.List.{AllZip}
 use Rattle.run_watch.specs.Runs.{Scene, Spot, Sight, Reaches, here, onward, Turn, on, off, IsWatched, Ends, steps_of}
 use Rattle.run_watch.specs.Runs.{IsCall}
-use Rattle.run_watch.specs.Activations.{Stack, TurnsBy, called}
+use Rattle.run_watch.specs.Activations.{Stack, TurnsBy}
 use Rattle.run_watch.specs.declared.stops.RunStop.{RunStop}
 use Rattle.flow_points.specs.declared.code_points.Flow.{Flow}
 use Rattle.flow_points.specs.declared.code_points.Flow.TheVariants as flow

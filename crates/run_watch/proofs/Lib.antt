@@ -5,6 +5,11 @@ mod Seeing
 mod Placing
 mod Gathering
 mod FirstOnes
+mod PointsTold
+mod Marking
+mod Unmarked
+mod NearestCode
+mod CloseCode
 mod Turning
 mod Going
 mod Beginning

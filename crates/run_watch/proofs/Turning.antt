@@ -1,22 +1,22 @@
 -- A turn of a run: what the checks, the stops and the step of the machine make of it.
-use Rattle.std.proofs.Common.{◌≡◌, ◌≢◌, ◌⊎◌, ℕ, ◌+◌, ◌*◌, ◌<◌, ◌≤◌, List, [], ◌∷◌, ◌++◌, length, ◌-◌, ◌^◌, min, Bool, true, false, MatchBool, IfOk, Contains, slice_get, Option, None, Some, Result, Ok, Err, IsSomeAnd, sym, subst, ap, ◌∙◌, refl, inl, inr, arith}
-use Rattle.std.proofs.lemmas.List.{length-append}
+use Rattle.std.proofs.Common.{◌≡◌, ◌≢◌, ◌⊎◌, ℕ, ◌+◌, ◌<◌, ◌≤◌, List, [], ◌∷◌, length, ◌-◌, ◌^◌, min, Bool, true, false, MatchBool, IfOk, Contains, slice_get, Option, None, Some, Result, Ok, Err, IsSomeAnd, sym, subst, ap, ◌∙◌, refl, inl, inr, arith}
+use Rattle.std.proofs.lemmas.Bool.{cases_eq}
 use Rattle.std.proofs.lemmas.Option.{slice_get_within}
 use Rattle.flow_points.specs.Walks.{point}
 use Rattle.flow_points.specs.PointLists.{places_of}
 use Rattle.flow_points.specs.declared.code_points.CodePoint.{CodePoint}
 use Rattle.flow_points.specs.declared.code_points.Flow.{Flow}
-use Rattle.flow_points.specs.declared.code_points.Flow.TheVariants as flow
 use Rattle.rv_step.specs.Machines.{made_of}
 use Rattle.rv_step.specs.Records.{IsClosing}
 use Rattle.rv_step.specs.declared.machine.Machine.{Machine}
 use Rattle.rv_step.specs.declared.records.StepRec.{StepRec}
 use Rattle.run_watch.specs.Activations.{Stack, Turned, Leaves}
 use Rattle.run_watch.specs.Moments.{Moment}
-use Rattle.run_watch.specs.Runs.{Scene, Spot, Sight, IsAtPoint, Describes, IsClosingSight, CanStep, has_word, IsCall, Goes, Ends, lost, budget, altered, deep, leaves, Turn, on, off, sight_of, pc_of, steps_of}
+use Rattle.run_watch.specs.Runs.{Scene, Spot, Sight, IsAtPoint, IsOffPoints, Describes, IsClosingSight, CanStep, has_word, IsCall, Goes, Ends, lost, lost_at_limit, budget, altered, deep, leaves, Turn, on, off, sight_of, pc_of, steps_of}
 use Rattle.run_watch.specs.Runs as run_specs
 use Rattle.run_watch.specs.Turns.{Stepped, made, stops, strays, IsMade, Tried}
 use Rattle.run_watch.specs.declared.outcomes.Outcome.{Outcome}
+use Rattle.run_watch.specs.declared.stops.RunStop.{RunStop}
 use Rattle.run_watch.specs.declared.stops.RunStop.TheVariants as run
 
 pub not_err : {A E : Type 0} (r : Result A E) (a : A) (e : E) → r ≡ Ok a → r ≡ Err e → ⊥
@@ -45,13 +45,19 @@ at_point scene a i c here procedure closing last code found = record {
       ∙ ap (λ p. point p here.pc) last ∙ ap (λ pc. point a.stack.last.procedure pc) closing.pc;
 }
 
-pub lost_at : (scene : Scene) (limit : ℕ) (a : Spot) (here : StepRec) (procedure : ℕ) → IsClosing a.machine here
+pub off_points : (scene : Scene) (limit : ℕ) (a : Spot) (here : StepRec) (procedure : ℕ) (stop : RunStop) → IsClosing a.machine here
     → procedure ≡ a.stack.last.procedure → (Contains (places_of scene.points.points) (point procedure here.pc) → ⊥)
-    → Ends scene limit a [] (steps_of a) (run.Left here.pc)
-lost_at scene limit a here procedure closing last none =
-    lost (subst (λ pc. Contains (places_of scene.points.points) (point a.stack.last.procedure pc) → ⊥) closing.pc
-    (subst (λ p. Contains (places_of scene.points.points) (point p here.pc) → ⊥) last none))
-    refl refl (ap run.Left closing.pc)
+    → (here.index ≡ limit → stop ≡ run.Budget) → (here.index ≢ limit → stop ≡ run.Left here.pc) → Ends scene limit a [] (steps_of a) stop
+off_points scene limit a here procedure stop closing last none at_limit below =
+    by (cases_eq (steps_of a) limit)
+  where
+    off : IsOffPoints scene a
+    off = subst (λ pc. Contains (places_of scene.points.points) (point a.stack.last.procedure pc) → ⊥) closing.pc
+        (subst (λ p. Contains (places_of scene.points.points) (point p here.pc) → ⊥) last none)
+
+    by : (steps_of a ≡ limit) ⊎ (steps_of a ≢ limit) → Ends scene limit a [] (steps_of a) stop
+    by (inl e) = lost_at_limit off e refl refl (at_limit (closing.index ∙ e))
+    by (inr more) = lost off more refl refl (below (λ e. more (sym closing.index ∙ e)) ∙ ap run.Left closing.pc)
 
 closing_sight : (scene : Scene) (a : Spot) (i : ℕ) (c : CodePoint) (here : StepRec) (moment : Moment)
     → IsHere scene a i c here moment → IsClosingSight scene a i c (sight_of moment here)
@@ -133,9 +139,6 @@ turned_off scene limit a n stack i by told seen is left =
     (subst (λ (t : StepRec). Leaves is.c.flow t.next a.stack) (sym is.tells)
     (subst (λ f. Leaves f told.next a.stack) (sym is.flows) left))
     is.one refl (ap (λ (t : StepRec). run.Left t.next) (sym is.tells)))
-
-pub row_within : (n i m : ℕ) → m ≡ 32 * n → i < n → 32 * i + 32 ≤ m
-row_within n i m e h = omega (arith, e, h)
 
 pub on_true : (b : Bool) (P Q : Type 0) → b ≡ true → MatchBool b P Q → P
 on_true true P Q e h = h

@@ -11,7 +11,8 @@
 --   begun entry regs            the activation of the entry procedure, at a start with these registers
 --   called target next relied regs   the activation that a call opens
 --   Stack                       the activations: the earlier ones, from the first on, and the last one
---   Turned flow i offsets regs next a b   a step at point i with this flow, from these registers to the address next,
+--   TurnsBy flow i offsets regs next a b, and as a record Turned
+--                               a step at point i with this flow, from these registers to the address next,
 --                               takes the activations a to b: a call opens one, a return to the last one's return address
 --                               closes it, and every other step leaves them
 --   Leaves flow next a          the step is a return that goes elsewhere, or one of the first activation

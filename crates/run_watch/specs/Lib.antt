@@ -1,5 +1,6 @@
 pub mod Slots
 pub mod Activations
+pub mod Marks
 pub mod Moments
 pub mod Judges
 pub mod Runs

@@ -6,14 +6,25 @@
 --   Spot                         where a run is: the machine and the activations
 --   Sight, sight_of moment told  a record with its moment
 --   pc_of a, steps_of a          the address where a run is, and how many steps were made
+--   point_of told                the point of which it is told
+--   is_told_of p told            it is told of the point p
 --   told_at report p             what a report tells of the point p, if it has it
+--   is_unreached told            it calls the point unreached
+--   rows_in told                 the rows that it has there, none at a point that it doesn't have
+--   is_return flow, IsCall flow  the flow is a return, a call
 --   IsAtPoint scene a i c        the run is at point i, whose code is c
+--   IsOffPoints scene a          the run is at no point
 --   Describes scene a i c m      m is the moment of the run at that point
 --   IsClosingSight               the closing record there, with its moment
+--   most_activations             there may be no more activations
+--   has_word a c                 the word in memory at pc is that of c
 --   CanStep scene limit a i c    the run is at a point; fewer steps were made than given; the word in memory is the file's;
 --                                and it isn't a call with as many activations as there may be
+--   MakesStep scene limit a i c sight machine   the run can make a step at point i, nothing stops the machine there, and it goes
+--                                to this one, with what is seen of it
 --   Goes scene limit a sight b   a step from a to b, with what is seen of it: the machine makes it, and the activations
 --                                change by the flow
+--   run_stop why                 how a run stops where the machine stops so, if it is a stop of runs
 --   Ends scene limit a seen steps stop   the run stops at a, after this is seen and so many steps were made
 --   Turn scene limit a b seen stop   a turn of the run: it goes on from a to b, or stops at a, where as many steps were made as
 --                                at b
@@ -21,6 +32,7 @@
 --   IsWatched scene limit a seen steps stop   the run goes on from a until it stops
 --   Begins image regs a          a is where a run of the image starts: loaded, with 0 elsewhere in memory and these registers,
 --                                no step made, and the activation of the entry procedure alone
+--   instruction_of c             the instruction at a point
 --   AreInstructionsOf points code   the instructions at the points, by their different addresses, ascending
 --   IsPut code at now            at was put among code, unless there is an instruction of its address
 --   IsRunOf image points offsets report regs limit seen steps stop   the one run of the image from these registers, of at
@@ -52,7 +64,6 @@ use Rattle.rv_step.specs.declared.machine.Machine.{Machine}
 use Rattle.rv_step.specs.declared.records.StepRec.{StepRec}
 use Rattle.rv_step.specs.declared.records.Stop.{Stop}
 use Rattle.rv_step.specs.declared.records.Stop.TheVariants as stop
-use Rattle.run_watch.specs.declared.activation.Activation.{Activation}
 use Rattle.run_watch.specs.declared.places.CodeAt.{CodeAt}
 use Rattle.run_watch.specs.declared.context.Found.{Found}
 use Rattle.run_watch.specs.declared.stops.RunStop.{RunStop}
@@ -89,6 +100,9 @@ pc_of a = (hart_of a.machine).pc
 abbrev pub steps_of : Spot → ℕ
 steps_of a = made_of a.machine
 
+abbrev pub point_of : PointRows → Point
+point_of told = point told.proc_entry told.address
+
 abbrev pub is_told_of : Point → PointRows → Bool
 is_told_of p told = told.proc_entry == p.proc_entry && told.address == p.address
 
@@ -116,6 +130,9 @@ IsCall flow = ⊥
 pub record IsAtPoint (scene : Scene) (a : Spot) (i : ℕ) (c : CodePoint) : Type 0 where
   pub code : slice_get scene.points.points i ≡ Some c
   pub place : c.point ≡ point a.stack.last.procedure (pc_of a)
+
+abbrev pub IsOffPoints : Scene → Spot → Type 0
+IsOffPoints scene a = Contains (places_of scene.points.points) (point a.stack.last.procedure (pc_of a)) → ⊥
 
 pub record Describes (scene : Scene) (a : Spot) (i : ℕ) (c : CodePoint) (m : Moment) : Type 0 where
   pub point : m.point ≡ i
@@ -171,7 +188,9 @@ run_stop (stop.Ecall a7) = Some (run.Ecall a7)
 run_stop why = None
 
 pub data Ends (scene : Scene) (limit : ℕ) (a : Spot) (seen : List Sight) (steps : ℕ) (stop : RunStop) : Type 0 where
-  lost : (Contains (places_of scene.points.points) (point a.stack.last.procedure (pc_of a)) → ⊥)
+  lost_at_limit : IsOffPoints scene a → steps_of a ≡ limit
+      → seen ≡ [] → steps ≡ steps_of a → stop ≡ run.Budget → Ends scene limit a seen steps stop
+  lost : IsOffPoints scene a → steps_of a ≢ limit
       → seen ≡ [] → steps ≡ steps_of a → stop ≡ run.Left (pc_of a) → Ends scene limit a seen steps stop
   budget : (i : ℕ) (c : CodePoint) (s : Sight) → IsAtPoint scene a i c → steps_of a ≡ limit
       → IsClosingSight scene a i c s → seen ≡ s ∷ [] → steps ≡ steps_of a → stop ≡ run.Budget → Ends scene limit a seen steps stop

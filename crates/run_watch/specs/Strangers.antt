@@ -4,6 +4,7 @@
 --   IsStrangeName procedures name   the name is a slot of a procedure that is none of these
 --   procedure_of name            the procedure of a slot
 --   IsStrangePoint points told   the point that is told of is none of these
+--   first_some one other         the first of two answers that is one
 --   IsStranger points report found   the procedure of the first slot name whose procedure is none of the file's; else the
 --                                address of the first point of the report that is none of the file's; if there is either
 use Rattle.std.specs.Prelude.{◌≡◌, ◌⊎◌, ℕ, List, [], ◌∷◌, Contains, Option, None, Some}

@@ -8,6 +8,7 @@ ghost use Rattle.run_watch.specs.Runs.{Sight, HasSeen, IsRunOf, IsVerdict};
 ghost use Rattle.run_watch.specs.Strangers.{IsStranger};
 
 use crate::instructions::instructions as instructions_of;
+use crate::marks::SlotMarks;
 use crate::runs::go_on;
 use crate::shows::findings;
 use crate::stack::begun;
@@ -81,6 +82,7 @@ fn watched(
     let mut machine = Machine::start(alloc, image, start)?;
     let here = machine.closing();
     let mut stack = begun(alloc, points.entry(), &here.regs);
+    let mut marks = SlotMarks::new(alloc);
     let stop = go_on(
         points,
         offsets,
@@ -89,6 +91,7 @@ fn watched(
         limit,
         &mut machine,
         &mut stack,
+        &mut marks,
         watches,
     )?;
     let Ok(found) = findings(alloc, watches) else {

@@ -1,7 +1,11 @@
 //! The moment before a step, and what is found there.
 
+ghost use Rattle.run_watch.specs.Activations.{slots_from};
+ghost use Rattle.run_watch.specs.Marks.{AreMarked};
+
 use crate::activation::Activation;
 use crate::code_bytes::CodeBytes;
+use crate::marks::SlotMarks;
 use report_text::Name;
 use word_rows::Row;
 
@@ -15,12 +19,14 @@ pub struct Found {
 }
 
 /// The live slots: of each activation, from the first on, those of the tracked names that are slots of its procedure, in the
-/// order of the names.
+/// order of the names. Those of the earlier activations are marked.
 #[derive(Clone, Copy)]
 pub struct LiveSlots<'a> {
     pub names: &'a [Name],
     pub earlier: &'a [Activation],
     pub last: &'a Activation,
+    pub marks: &'a SlotMarks,
+    ghost marked: { ∥ AreMarked marks.now (slots_from names.now 1 earlier.now) ∥₁ },
 }
 
 /// The moment before a step, for watches. `depth` counts the activations, so the first has depth 1. Of the last activation
@@ -28,7 +34,7 @@ pub struct LiveSlots<'a> {
 /// relies (bit i for s of i), and its return address, which the first lacks. `values` has the words of the names that are
 /// seen, 0 for each other and 1 at position 16. `unreached` and `rows` are what the report says of the point, where it has
 /// the point. `writable` has bit i where the point assigns to the slot at position i.
-/// The tracked names and the activations tell the live slots.
+/// The tracked names and the activations tell the live slots, and those of the earlier activations are marked.
 #[derive(Drop)]
 pub struct WatchCtx<'a> {
     pub point: u32,
@@ -46,5 +52,7 @@ pub struct WatchCtx<'a> {
     pub names: &'a [Name],
     pub earlier: &'a [Activation],
     pub last: &'a Activation,
+    pub marks: &'a SlotMarks,
     pub code: &'a CodeBytes,
+    ghost marked: { ∥ AreMarked marks.now (slots_from names.now 1 earlier.now) ∥₁ },
 }

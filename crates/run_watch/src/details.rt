@@ -7,9 +7,9 @@ ghost use Rattle.run_watch.specs.Slots.{byte_at, live};
 ghost use Rattle.run_watch.specs.Moments.{moment_of, slots_in};
 ghost use Rattle.run_watch.specs.Judges.{byte, changed_bytes, is_changed, has_bit, is_writable, holds_kept, holds_code, is_kept, is_code, is_restored, is_as_at_entry, is_return_to, is_home, relation_detail, store_detail, return_detail, code_detail, found_at};
 
+use crate::code_bytes::CodeBytes;
 use crate::context::{Found, LiveSlots, WatchCtx};
 use crate::live_slots::{Allowed, has_bit};
-use crate::places::{CodeAt, is_among};
 use rv_step::{StepRec, StoreRec};
 use word_rows::Row;
 
@@ -76,6 +76,7 @@ fn kept_byte(ctx: &WatchCtx, store: &StoreRec) -> Option<u64>
         names: ctx.names,
         earlier: ctx.earlier,
         last: ctx.last,
+        marks: ctx.marks,
     };
     if slots.is_near(store.address) {
         first_kept(&slots, allowed, store)
@@ -164,28 +165,21 @@ fn code_byte(ctx: &WatchCtx, store: &StoreRec) -> Option<u64>
     ensures { result ≡ find (is_code (moment_of ctx.now)) (changed_bytes store.now) }
 {
     if ctx.code.is_near(store.address) {
-        first_code(ctx.code.as_slice(), store)
+        first_code(ctx.code, store)
     } else {
         None
     }
 }
 
 // The address of the first byte that a store changes of these instructions.
-fn first_code(code: &[CodeAt], store: &StoreRec) -> Option<u64>
+fn first_code(code: &CodeBytes, store: &StoreRec) -> Option<u64>
     ensures { result ≡ find (λ a. list_any (holds_code a) code.now) (changed_bytes store.now) }
 {
     PLACES
         .iter()
         .filter(|k| is_changed(store, **k))
         .map(|k| byte_at(store.address, *k))
-        .find(|a| is_code(code, *a))
-}
-
-// A byte belongs to one of these instructions.
-fn is_code(code: &[CodeAt], byte: u64) -> bool
-    ensures { result ≡ list_any (holds_code byte) code.now }
-{
-    code.iter().any(|at| is_among(byte, at.address, at.length))
+        .find(|a| code.has(*a))
 }
 
 // A store changes the byte at this place.

@@ -26,14 +26,21 @@ impl LiveSlots<'_> {
     pub fn is_near(&self, address: u64) -> bool
         ensures { result ≡ false → All (IsApart address) (slots_in self.now).earlier }
     {
-        !self.earlier.is_empty()
+        self.marks.has(address) || self.marks.has(address.wrapping_add(7))
     }
 
     /// A byte lies in a live slot that isn't writable.
     pub(crate) fn keep(&self, allowed: Allowed, byte: u64) -> bool
         ensures { result ≡ list_any (holds_kept allowed.depth allowed.writable byte) (live (slots_in self.now)) }
     {
-        earlier_keep(self.names, self.earlier, allowed, byte) || self.last_keeps(allowed, byte)
+        self.earlier_keep(allowed, byte) || self.last_keeps(allowed, byte)
+    }
+
+    // It lies in such a slot of an earlier activation.
+    fn earlier_keep(&self, allowed: Allowed, byte: u64) -> bool
+        ensures { result ≡ list_any (holds_kept allowed.depth allowed.writable byte) (slots_in self.now).earlier }
+    {
+        self.marks.has(byte) && earlier_keep(self.names, self.earlier, allowed, byte)
     }
 
     /// It lies in such a slot of the last activation.

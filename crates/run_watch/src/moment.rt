@@ -1,14 +1,19 @@
 //! The moment at which a run is.
 
-ghost use Rattle.std.specs.Prelude.{◌≡◌, ◌+◌, ◌≤◌, ◌==◌, ◌&&◌, length, find, option_copied, option_map};
-ghost use Rattle.flow_points.specs.Walks.{point};
+ghost use Rattle.std.specs.Prelude.{◌≡◌, ◌+◌, ◌≤◌, length, find, option_copied, option_map};
+ghost use Rattle.std.specs.List.Sorted.{IsBinarySearchResult, IsSearchInRange};
+ghost use Rattle.flow_points.specs.PointLists.{point_cmp};
+ghost use Rattle.report_text.specs.Reports.{Ascend};
 ghost use Rattle.frame_offsets.specs.Frames.{AreOffsetsOf};
 ghost use Rattle.rv_step.specs.Records.{IsClosing};
+ghost use Rattle.run_watch.specs.Activations.{slots_from};
+ghost use Rattle.run_watch.specs.Marks.{AreMarked};
 ghost use Rattle.run_watch.specs.Moments.{moment_of};
-ghost use Rattle.run_watch.specs.Runs.{scene_of, IsAtPoint, Describes, told_at, is_unreached, rows_in, is_return, is_told_of};
+ghost use Rattle.run_watch.specs.Runs.{scene_of, IsAtPoint, Describes, told_at, is_unreached, rows_in, is_return, is_told_of, point_of};
 
 use crate::code_bytes::CodeBytes;
 use crate::context::WatchCtx;
+use crate::marks::SlotMarks;
 use crate::stacks::Stack;
 use crate::values::values;
 use affine_lift::slot_writes;
@@ -16,6 +21,7 @@ use flow_points::{CodePoint, Flow, Point, Points};
 use frame_offsets::Offsets;
 use report_text::{PointRows, PointState, Report};
 use rv_step::{Machine, StepRec};
+use sqlite_items::at;
 use word_rows::Row;
 
 /// The moment of a run at a point.
@@ -25,6 +31,7 @@ pub(crate) fn context<'a>(
     report: &'a Report,
     code: &'a CodeBytes,
     stack: &'a Stack,
+    marks: &'a SlotMarks,
     machine: &Machine,
     here: &StepRec,
     at: u32,
@@ -34,6 +41,7 @@ pub(crate) fn context<'a>(
     requires here { IsClosing machine.now here.now }
     requires offsets { AreOffsetsOf points.now offsets.now }
     requires few { length stack.now.earlier + 1 ≤ 65536 }
+    requires marked { AreMarked marks.now (slots_from report.now.tracked.names 1 stack.now.earlier) }
     ensures { Describes (scene_of points.now offsets.now report.now code.now) (record { machine = machine.now; stack = stack.now }) at code_point.now (moment_of result) }
 {
     let names = report.tracked.names.as_slice();
@@ -54,15 +62,38 @@ pub(crate) fn context<'a>(
         names,
         earlier: stack.earlier.as_slice(),
         last: &stack.last,
+        marks,
         code,
     }
 }
 
-// What a report tells of a point, if it has it.
+// What a report tells of a point, if it has it. Its points ascend.
 fn told_at(told: &[PointRows], point: Point) -> Option<&PointRows>
+    requires { ∥ Ascend told.now ∥₁ }
     ensures { option_copied result ≡ find (is_told_of point) told.now }
 {
-    told.iter().find(|t| t.proc_entry == point.proc_entry && t.address == point.address)
+    match search(told, point) {
+        Ok(i) => at(told, i),
+        Err(_) => None,
+    }
+}
+
+// Where a point stands in what a report tells.
+fn search(told: &[PointRows], point: Point) -> Result<usize, usize>
+    ensures within { IsSearchInRange result (length told.now) }
+    ensures place { IsBinarySearchResult (λ t. point_cmp (point_of t) point) told.now result }
+{
+    told.binary_search_by_key(&point, |t| point_of(t))
+}
+
+// The point of which it is told.
+fn point_of(told: &PointRows) -> Point
+    ensures { result ≡ point_of told.now }
+{
+    Point {
+        proc_entry: told.proc_entry,
+        address: told.address,
+    }
 }
 
 // It calls the point unreached.

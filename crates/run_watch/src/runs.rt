@@ -3,9 +3,12 @@
 ghost use Rattle.std.specs.Prelude.{◌≡◌, ◌+◌, ◌≤◌, length, List, IfOk};
 ghost use Rattle.std.specs.List.{AllZip};
 ghost use Rattle.frame_offsets.specs.Frames.{AreOffsetsOf};
+ghost use Rattle.run_watch.specs.Activations.{slots_from};
+ghost use Rattle.run_watch.specs.Marks.{AreMarked};
 ghost use Rattle.run_watch.specs.Runs.{scene_of, steps_of, Sight, HasSeen, IsWatched};
 
 use crate::code_bytes::CodeBytes;
+use crate::marks::SlotMarks;
 use crate::stacks::Stack;
 use crate::stops::RunStop;
 use crate::turns::turn;
@@ -24,17 +27,19 @@ pub(crate) fn go_on(
     limit: u64,
     machine: &mut Machine,
     stack: &mut Stack,
+    marks: &mut SlotMarks,
     watches: &mut [Box<dyn Watch>],
 ) -> Result<RunStop, Memory>
     requires offsets { AreOffsetsOf points.now offsets.now }
     requires few { length stack.old.earlier + 1 ≤ 65536 }
     requires limit { limit ≤ 1000000000 }
     requires within { steps_of (record { machine = machine.old; stack = stack.old }) ≤ limit }
+    requires marked { AreMarked marks.old (slots_from report.now.tracked.names 1 stack.old.earlier) }
     ensures { IfOk result (λ stop. (seen : List Sight) × IsWatched (scene_of points.now offsets.now report.now code.now) limit (record { machine = machine.old; stack = stack.old }) seen (steps_of (record { machine = machine.new; stack = stack.new })) stop × AllZip (λ old new. HasSeen seen (kind_of old) (state old) (kind_of new) (state new)) watches.old watches.new) }
 {
     loop {
         if let Some(stop) = turn(
-            points, offsets, report, code, limit, machine, stack, watches,
+            points, offsets, report, code, limit, machine, stack, marks, watches,
         )? {
             return Ok(stop);
         }

@@ -1,13 +1,16 @@
 //! The activations of a run.
 
-ghost use Rattle.std.specs.Prelude.{◌≡◌, ◌+◌, ◌*◌, ◌≤◌, ◌<◌, [], is_some, length, IfOk, MatchBool, if◌then◌else◌};
+ghost use Rattle.std.specs.Prelude.{◌≡◌, ◌+◌, ◌*◌, ◌≤◌, ◌<◌, [], is_some, length, IfOk, OnOk, MatchBool, if◌then◌else◌};
 ghost use Rattle.frame_offsets.specs.Frames.{offset_at};
-ghost use Rattle.run_watch.specs.Activations.{saved_words, relied_at, begun, called, Turned, Leaves};
+ghost use Rattle.run_watch.specs.Activations.{saved_words, relied_at, begun, called, slots_from, Turned, Leaves};
+ghost use Rattle.run_watch.specs.Marks.{AreMarked};
 
 use crate::activation::Activation;
+use crate::marks::SlotMarks;
 use crate::stacks::Stack;
 use flow_points::Flow;
 use frame_offsets::Offsets;
+use report_text::Name;
 use rv_step::StepRec;
 use sqlite_items::Items;
 use std::alloc::{AllocError, Global};
@@ -33,38 +36,48 @@ pub(crate) fn begun(alloc: Global, entry: u64, regs: &[u64; 32]) -> Stack
 }
 
 /// What a made step at a point does to the activations; false where it is a return that doesn't go to the last one's return
-/// address, or one of the first activation.
+/// address, or one of the first activation. The slots of the names in earlier activations stay marked.
 pub(crate) fn turn(
     stack: &mut Stack,
+    marks: &mut SlotMarks,
+    names: &[Name],
     flow: Flow,
     offsets: &Offsets,
     point: u32,
     rec: &StepRec,
 ) -> Result<bool, AllocError>
-    requires { 32 * point + 32 ≤ length offsets.now }
-    ensures { IfOk result (λ on. MatchBool on (Turned flow point offsets.now rec.now.regs rec.now.next stack.old stack.new) (Leaves flow rec.now.next stack.old)) }
+    requires point { 32 * point + 32 ≤ length offsets.now }
+    requires few { length stack.old.earlier + 1 ≤ 65536 }
+    requires marked { AreMarked marks.old (slots_from names.now 1 stack.old.earlier) }
+    ensures turned { IfOk result (λ on. MatchBool on (Turned flow point offsets.now rec.now.regs rec.now.next stack.old stack.new) (Leaves flow rec.now.next stack.old)) }
+    ensures marked { OnOk result (AreMarked marks.new (slots_from names.now 1 stack.new.earlier)) }
 {
     match flow {
         Flow::Call { target, next } => {
             let relied = relied_at(offsets, point);
+            marks.mark_slots(names, stack.earlier.len() + 1, &stack.last)?;
             stack.earlier.push(stack.last)?;
             stack.last = called(target, next, relied, &rec.regs);
             Ok(true)
         }
-        Flow::Return => Ok(close(stack, rec.next)),
+        Flow::Return => Ok(close(stack, marks, names, rec.next)),
         _ => Ok(true),
     }
 }
 
 // A return: it closes the last activation, where it goes to its return address, and that isn't the first.
-fn close(stack: &mut Stack, next: u64) -> bool
-    ensures { MatchBool result (Turned Flow.Return 0 [] [] next stack.old stack.new) (Leaves Flow.Return next stack.old) }
+fn close(stack: &mut Stack, marks: &mut SlotMarks, names: &[Name], next: u64) -> bool
+    requires { AreMarked marks.old (slots_from names.now 1 stack.old.earlier) }
+    ensures marked { AreMarked marks.new (slots_from names.now 1 stack.new.earlier) }
+    ensures closed { MatchBool result (Turned Flow.Return 0 [] [] next stack.old stack.new) (Leaves Flow.Return next stack.old) }
 {
     if stack.last.return_to != Some(next) {
         return false;
     }
+    let depth = stack.earlier.len();
     match stack.earlier.pop() {
         Some(caller) => {
+            marks.unmark_slots(names, depth, &caller);
             stack.last = caller;
             true
         }

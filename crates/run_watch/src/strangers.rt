@@ -8,7 +8,7 @@ use report_text::{Name, PointRows, Report};
 
 /// The procedure of the first slot name whose procedure is none of the file's; else the address of the first point that is
 /// none of the file's; if there is either.
-pub(crate) fn stranger(points: &Points, report: &Report) -> Option<u64>
+pub fn stranger(points: &Points, report: &Report) -> Option<u64>
     ensures { IsStranger points.now report.now.tracked.names report.now.points result }
 {
     either(

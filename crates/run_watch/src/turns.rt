@@ -1,10 +1,12 @@
 //! One turn of a run.
 
-ghost use Rattle.std.specs.Prelude.{◌≡◌, ◌≢◌, ◌+◌, ◌≤◌, ◌<◌, ◌↔◌, Some, IsTrue, length, List, option_map, IfOk};
+ghost use Rattle.std.specs.Prelude.{◌≡◌, ◌≢◌, ◌+◌, ◌≤◌, ◌<◌, ◌↔◌, Some, IsTrue, length, List, option_map, IfOk, OnOk};
 ghost use Rattle.std.specs.List.{AllZip};
 ghost use Rattle.frame_offsets.specs.Frames.{AreOffsetsOf};
 ghost use Rattle.rv_step.specs.Harts.{fetched};
 ghost use Rattle.rv_step.specs.Machines.{hart_of};
+ghost use Rattle.run_watch.specs.Activations.{slots_from};
+ghost use Rattle.run_watch.specs.Marks.{AreMarked};
 ghost use Rattle.run_watch.specs.Moments.{moment_of};
 ghost use Rattle.run_watch.specs.Runs.{scene_of, steps_of, Sight, Turn, HasSeen, IsCall, run_stop};
 ghost use Rattle.run_watch.specs.Turns.{Stepped, Tried};
@@ -12,6 +14,7 @@ ghost use Rattle.rv_step.specs.declared.records.Stop.{Stop};
 
 use crate::code_bytes::CodeBytes;
 use crate::context::WatchCtx;
+use crate::marks::SlotMarks;
 use crate::moment::context;
 use crate::outcomes::Outcome;
 use crate::shows::show;
@@ -37,23 +40,29 @@ pub(crate) fn turn(
     limit: u64,
     machine: &mut Machine,
     stack: &mut Stack,
+    marks: &mut SlotMarks,
     watches: &mut [Box<dyn Watch>],
 ) -> Result<Option<RunStop>, Memory>
     requires offsets { AreOffsetsOf points.now offsets.now }
     requires few { length stack.old.earlier + 1 ≤ 65536 }
     requires limit { limit ≤ 1000000000 }
     requires within { steps_of (record { machine = machine.old; stack = stack.old }) ≤ limit }
-    ensures { IfOk result (λ stop. (seen : List Sight) × Turn (scene_of points.now offsets.now report.now code.now) limit (record { machine = machine.old; stack = stack.old }) (record { machine = machine.new; stack = stack.new }) seen stop × AllZip (λ old new. HasSeen seen (kind_of old) (state old) (kind_of new) (state new)) watches.old watches.new) }
+    requires marked { AreMarked marks.old (slots_from report.now.tracked.names 1 stack.old.earlier) }
+    ensures marked { OnOk result (AreMarked marks.new (slots_from report.now.tracked.names 1 stack.new.earlier)) }
+    ensures turned { IfOk result (λ stop. (seen : List Sight) × Turn (scene_of points.now offsets.now report.now code.now) limit (record { machine = machine.old; stack = stack.old }) (record { machine = machine.new; stack = stack.new }) seen stop × AllZip (λ old new. HasSeen seen (kind_of old) (state old) (kind_of new) (state new)) watches.old watches.new) }
 {
     match tried(
-        points, offsets, report, code, limit, machine, stack, watches,
+        points, offsets, report, code, limit, machine, stack, marks, watches,
     )? {
         Outcome::Stopped(stop) => Ok(Some(stop)),
-        Outcome::Made(at, flow, rec) => match turn_stack(stack, flow, offsets, at, &rec) {
-            Ok(true) => Ok(None),
-            Ok(false) => Ok(Some(RunStop::Left(rec.next))),
-            Err(_) => Err(Memory),
-        },
+        Outcome::Made(at, flow, rec) => {
+            let names = report.tracked.names.as_slice();
+            match turn_stack(stack, marks, names, flow, offsets, at, &rec) {
+                Ok(true) => Ok(None),
+                Ok(false) => Ok(Some(RunStop::Left(rec.next))),
+                Err(_) => Err(Memory),
+            }
+        }
     }
 }
 
@@ -66,17 +75,19 @@ fn tried(
     limit: u64,
     machine: &mut Machine,
     stack: &Stack,
+    marks: &SlotMarks,
     watches: &mut [Box<dyn Watch>],
 ) -> Result<Outcome, Memory>
     requires offsets { AreOffsetsOf points.now offsets.now }
     requires few { length stack.now.earlier + 1 ≤ 65536 }
     requires limit { limit ≤ 1000000000 }
     requires within { steps_of (record { machine = machine.old; stack = stack.now }) ≤ limit }
+    requires marked { AreMarked marks.now (slots_from report.now.tracked.names 1 stack.now.earlier) }
     ensures { IfOk result (λ outcome. (seen : List Sight) × Tried (scene_of points.now offsets.now report.now code.now) limit (record { machine = machine.old; stack = stack.now }) machine.new seen outcome × AllZip (λ old new. HasSeen seen (kind_of old) (state old) (kind_of new) (state new)) watches.old watches.new) }
 {
     let here = machine.closing();
     let Some(at) = points.find(stack.procedure(), here.pc) else {
-        return Ok(Outcome::Stopped(RunStop::Left(here.pc)));
+        return Ok(Outcome::Stopped(stop_off_points(here.index, here.pc, limit)));
     };
     let code_point = points.code(at);
     let ctx = context(
@@ -85,6 +96,7 @@ fn tried(
         report,
         code,
         stack,
+        marks,
         machine,
         &here,
         at,
@@ -102,6 +114,18 @@ fn tried(
         return Ok(Outcome::Stopped(RunStop::Depth(MOST_ACTIVATIONS as u32)));
     }
     step(machine, watches, &ctx, &here, at, code_point.flow)
+}
+
+// How a run stops that is at no point of the file, after so many steps.
+fn stop_off_points(steps: u64, pc: u64, limit: u64) -> RunStop
+    ensures spent { steps ≡ limit → result ≡ RunStop.Budget }
+    ensures lost { steps ≢ limit → result ≡ RunStop.Left pc }
+{
+    if steps == limit {
+        RunStop::Budget
+    } else {
+        RunStop::Left(pc)
+    }
 }
 
 // A step of the machine at a point, or the stop there.

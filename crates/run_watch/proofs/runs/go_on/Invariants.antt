@@ -1,4 +1,6 @@
 use Rattle.std.proofs.Common.{◌-◌}
+use Rattle.run_watch.specs.Activations.{slots_from}
+use Rattle.run_watch.specs.Marks.{AreMarked}
 use Rattle.run_watch.specs.Runs.{scene_of, steps_of, HasSeen}
 use Rattle.run_watch.proofs.Going.{IsOn}
 use Rattle.run_watch.proofs.runs.go_on.Given as goal
@@ -11,6 +13,7 @@ invariant-loop-stop g l =
     ((goal.Watch-dyn g (b.vtable, b.value)).kind_of b.value) ((goal.Watch-dyn g (b.vtable, b.value)).state b.value))
     (scene_of l.points l.offsets l.report l.code) l.limit (record { machine = l.initial.machine; stack = l.initial.stack })
     (record { machine = l.machine; stack = l.stack }) l.initial.watches l.watches
+    × AreMarked l.marks (slots_from l.report.tracked.names 1 l.stack.earlier)
 
 abbrev pub decreases-loop-stop : goal.decreases-loop-stop
 decreases-loop-stop g l = l.limit - steps_of (record { machine = l.machine; stack = l.stack })

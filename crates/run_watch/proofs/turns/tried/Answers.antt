@@ -1,8 +1,8 @@
-use Rattle.std.proofs.Common.{[], ◌∷◌, refl, sym, ◌∙◌}
+use Rattle.std.proofs.Common.{[], ◌∷◌, sym, ◌∙◌}
 use Rattle.std.proofs.lemmas.Bool.{false≢true}
 use Rattle.run_watch.specs.Moments.{moment_of}
 use Rattle.run_watch.specs.Runs.{Scene, Spot, scene_of, sight_of}
-use Rattle.run_watch.proofs.Turning.{IsHere, some_within, at_point, lost_at, budget_at, altered_at, deep_at, can_step, tried_by, if_ok_then}
+use Rattle.run_watch.proofs.Turning.{IsHere, some_within, at_point, off_points, budget_at, altered_at, deep_at, can_step, tried_by, if_ok_then}
 use Rattle.run_watch.proofs.Seeing.{zip_same, seen_none}
 use Rattle.run_watch.proofs.turns.tried.Goals as goal
 
@@ -11,8 +11,8 @@ returns-in_default g c =
     let scene : Scene = scene_of c.args.points.now c.args.offsets.now c.args.report.now c.args.code.now in
     let a : Spot = record { machine = c.args.machine.now; stack = c.args.stack.now } in (
       [],
-      lost_at scene c.args.limit a c.closing-here.result c.procedure.result c.closing-here.ensures c.procedure.ensures
-          c.in_default.ensures.none,
+      off_points scene c.args.limit a c.closing-here.result c.procedure.result c.stop_off_points.result c.closing-here.ensures
+          c.procedure.ensures c.in_default.ensures.none c.stop_off_points.ensures.spent c.stop_off_points.ensures.lost,
       zip_same _ _ (λ w. seen_none _ _),
     )
 

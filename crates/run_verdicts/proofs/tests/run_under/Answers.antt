@@ -1,10 +1,10 @@
-use Rattle.std.proofs.Common.{List, [], sym, subst, arith}
+use Rattle.std.proofs.Common.{List, sym, subst, arith}
 use Rattle.std.proofs.lemmas.Grind.{merely}
 use Rattle.std.proofs.lemmas.List.Elements.{All-nil}
 use Rattle.report_text.specs.Reports.{Ascend, AreRowsAt}
 use Rattle.report_text.specs.declared.points.PointRows.{PointRows}
 use Rattle.std.specs.Prelude.{All}
-use Rattle.run_verdicts.proofs.tests.run.Goals as goal
+use Rattle.run_verdicts.proofs.tests.run_under.Goals as goal
 
 pub invariant_of-report : goal.invariant_of-report
 invariant_of-report c = record {
