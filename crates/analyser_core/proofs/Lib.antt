@@ -9,3 +9,4 @@ mod Counted
 mod InnerSoFar
 mod Answered
 mod Passed
+mod Upgrading

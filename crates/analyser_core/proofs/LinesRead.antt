@@ -1,7 +1,7 @@
 -- Lines of certificates, one name and one procedure at a time.
-use Rattle.std.proofs.Common.{◌≡◌, ℕ, ◌+◌, ◌<◌, Bool, true, false, if◌then◌else◌, List, [], ◌∷◌, ◌++◌, map, drop, length, get_or, slice_get, All, Some, refl, sym, ap, subst, append_assoc, append-nil, ◌∙◌, arith}
+use Rattle.std.proofs.Common.{◌≡◌, ℕ, ◌+◌, Bool, true, false, if◌then◌else◌, List, [], ◌∷◌, ◌++◌, map, drop, length, get_or, slice_get, All, Some, refl, sym, ap, subst, append_assoc, append-nil, ◌∙◌, arith}
 use Rattle.std.specs.Prelude.{IsTrue}
-use Rattle.std.proofs.lemmas.List.{get_or_default, map-append, length-map}
+use Rattle.std.proofs.lemmas.List.{map-append, length-map}
 use Rattle.std.proofs.lemmas.List.Elements.{All-append, All-push}
 use Rattle.std.proofs.lemmas.Option.{slice_get_within}
 use Rattle.row_modules.specs.Bases.{IsLeadingBasis}
@@ -16,7 +16,7 @@ use Rattle.report_text.specs.Certificates.{certified_names, sites_of}
 use Rattle.report_text.specs.declared.names.Name.{Name}
 use Rattle.report_text.specs.declared.names.Name.TheVariants.{Register, Slot}
 use Rattle.analyser_core.specs.declared.cert_line.CertLine.{CertLine}
-use Rattle.analyser_core.specs.Certified.{site_of, IsCertLineOf, AreCertificatesOf}
+use Rattle.analyser_core.specs.Certified.{site_of, IsCertLineOf, AreCertificatesAt}
 use Rattle.analyser_core.specs.ReadOff.{IsReadOff, AreReadOff}
 
 first_certified : (r : ℕ) (names : List Name) → IsTrue (is_certified r) → certified_names (Register r ∷ names) ≡ r ∷ certified_names names
@@ -72,9 +72,9 @@ module _ (summary : List (List ℕ)) (p : ℕ) (names : List Name) (i : ℕ) (li
         each = before.each;
       }
 
--- the lines of the procedures before place i
-pub record AreOfFirst (program : Program) (points : FlowPoints) (names : List Name) (i : ℕ) (certs : List CertLine) : Type 0 where
-  pub sites : map site_of certs ++ sites_of (drop i points.procedures) (certified_names names) ≡ sites_of points.procedures (certified_names names)
+-- the lines of the procedures before place i of these
+pub record AreOfFirst (program : Program) (points : FlowPoints) (names : List Name) (these : List ℕ) (i : ℕ) (certs : List CertLine) : Type 0 where
+  pub sites : map site_of certs ++ sites_of (drop i these) (certified_names names) ≡ sites_of these (certified_names names)
   pub each : All (IsCertLineOf program points names) certs
 
 module _ (program : Program) (points : FlowPoints) (names : List Name) (formed : IsWellFormed program) (lifted : IsLifted points names program)
@@ -82,9 +82,8 @@ module _ (program : Program) (points : FlowPoints) (names : List Name) (formed :
   procedures : length program.procs ≡ length points.procedures
   procedures = ap length lifted.procs ∙ length-map points.procedures (proc_of points names)
 
-  -- a summary that stands at place p, whatever stands behind the last
-  pub summary_at : (p : ℕ) (summary : List (List ℕ)) → p < length points.procedures → summary ≡ get_or exits p summary → summary ≡ rows_at exits p
-  summary_at p summary below is = is ∙ get_or_default exits p summary [] (omega (arith, below, procedures, are.each))
+  pub exits_count : length exits ≡ length points.procedures
+  exits_count = are.each ∙ procedures
 
   certified : (p entry : ℕ) (line : CertLine) → slice_get points.procedures p ≡ Some entry → IsLeadingBasis 289 (rows_at exits p) →
       IsReadOff (rows_at exits p) entry names line → IsCertLineOf program points names line
@@ -101,14 +100,14 @@ module _ (program : Program) (points : FlowPoints) (names : List Name) (formed :
             (are.exact p (omega (arith, within, procedures))) read.is;
       }
 
-  pub procedure_more : (p entry : ℕ) (certs lines new : List CertLine) → slice_get points.procedures p ≡ Some entry →
-      drop p points.procedures ≡ entry ∷ drop (p + 1) points.procedures → IsLeadingBasis 289 (rows_at exits p) →
-      AreReadOff (rows_at exits p) entry names lines → new ≡ certs ++ lines → AreOfFirst program points names p certs →
-      AreOfFirst program points names (p + 1) new
-  procedure_more p entry certs lines new at from_here basis read new_is before =
+  pub procedure_more : (these : List ℕ) (i p entry : ℕ) (certs lines new : List CertLine) → slice_get points.procedures p ≡ Some entry →
+      drop i these ≡ entry ∷ drop (i + 1) these → IsLeadingBasis 289 (rows_at exits p) →
+      AreReadOff (rows_at exits p) entry names lines → new ≡ certs ++ lines → AreOfFirst program points names these i certs →
+      AreOfFirst program points names these (i + 1) new
+  procedure_more these i p entry certs lines new at from_here basis read new_is before =
       let registers = certified_names names in
-      let rest = sites_of (drop (p + 1) points.procedures) registers in
-      let own : map site_of lines ++ rest ≡ sites_of (drop p points.procedures) registers =
+      let rest = sites_of (drop (i + 1) these) registers in
+      let own : map site_of lines ++ rest ≡ sites_of (drop i these) registers =
       ap (λ t. t ++ rest) read.sites ∙ sym (ap (λ ps. sites_of ps registers) from_here) in
       record {
         sites = ap (λ ls. map site_of ls ++ rest) new_is ∙ ap (λ t. t ++ rest) (map-append site_of certs lines)
@@ -117,9 +116,9 @@ module _ (program : Program) (points : FlowPoints) (names : List Name) (formed :
             (λ k d below. certified p entry (get_or lines k d) at basis (read.each k d below)));
       }
 
-  pub all_certified : (p : ℕ) (certs : List CertLine) → drop p points.procedures ≡ [] → AreOfFirst program points names p certs →
-      AreCertificatesOf program points names certs
-  all_certified p certs end before =
+  pub all_certified : (these : List ℕ) (i : ℕ) (certs : List CertLine) → drop i these ≡ [] → AreOfFirst program points names these i certs →
+      AreCertificatesAt program points names these certs
+  all_certified these i certs end before =
       record {
         sites = sym (append-nil (map site_of certs)) ∙ ap (λ ps. map site_of certs ++ sites_of ps (certified_names names)) (sym end) ∙ before.sites;
         each = before.each;

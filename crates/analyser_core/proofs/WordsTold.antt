@@ -16,7 +16,7 @@ use Rattle.report_text.specs.declared.points.PointState.TheVariants.{Unreached}
 use Rattle.report_text.specs.Certificates as report
 use Rattle.report_text.specs.Certificates.{certified_names, procedures_of, AreCertsOf, sites_of}
 use Rattle.analyser_core.specs.declared.cert_line.CertLine.{CertLine}
-use Rattle.analyser_core.specs.Certified.{site_of, told_in, told_of, AreCertificatesOf}
+use Rattle.analyser_core.specs.Certified.{site_of, told_in, told_of, AreCertificatesAt, AreCertificatesOf}
 use Rattle.analyser_core.specs.Told.{AreTold}
 
 site_in : ℕ × ℕ × CertWord → ℕ × ℕ
@@ -25,6 +25,11 @@ site_in told = (told.0, told.1)
 sites_told : (words : List ReportCert) (certs : List CertLine) → map told_of words ≡ map told_in certs → map report.site_of words ≡ map site_of certs
 unfolding site_in
 sites_told words certs same = sym (map-map site_in told_of words) ∙ ap (map site_in) same ∙ map-map site_in told_in certs
+
+pub certs_told_at : (program : Program) (points : FlowPoints) (names : List Name) (told : List PointRows) (words : List ReportCert)
+    (certs : List CertLine) → AreCertificatesAt program points names (procedures_of told) certs → map told_of words ≡ map told_in certs →
+    AreCertsOf names told words
+certs_told_at program points names told words certs are same = sites_told words certs same ∙ are.sites
 
 unreached_at_0 : PointRows
 unreached_at_0 = record { proc_entry = 0; address = 0; state = Unreached }

@@ -4,9 +4,11 @@
 --                              the line has the entry of a procedure of the points and a register of the names that is certified,
 --                              and the certificate of that register's position in that procedure
 --   site_of line               the procedure and the register of a line
+--   AreCertificatesAt program points names procedures certs
+--                              there is such a line for each of these procedures, in their order, and each of sp, ra and s0 to s11
+--                              that is tracked, in track order
 --   AreCertificatesOf program points names certs
---                              there is such a line for each procedure and each of sp, ra and s0 to s11 that is tracked: procedures
---                              ascend, and the registers of each stand in track order
+--                              so there is for all procedures of the points, which ascend
 --   word_of cert               the word that a report has for a certificate
 --   told_in line               a line's procedure, its register and the word of its certificate
 --   told_of cert               the same of a certificate in a report
@@ -36,9 +38,12 @@ pub record IsCertLineOf (program : Program) (points : FlowPoints) (names : List 
 abbrev pub site_of : CertLine → ℕ × ℕ
 site_of line = (line.proc_entry, line.register)
 
-pub record AreCertificatesOf (program : Program) (points : FlowPoints) (names : List Name) (certs : List CertLine) : Type 0 where
-  pub sites : map site_of certs ≡ sites_of points.procedures (certified_names names)
+pub record AreCertificatesAt (program : Program) (points : FlowPoints) (names : List Name) (procedures : List ℕ) (certs : List CertLine) : Type 0 where
+  pub sites : map site_of certs ≡ sites_of procedures (certified_names names)
   pub each : All (IsCertLineOf program points names) certs
+
+abbrev pub AreCertificatesOf : Program → FlowPoints → List Name → List CertLine → Type 0
+AreCertificatesOf program points names certs = AreCertificatesAt program points names points.procedures certs
 
 abbrev pub word_of : Cert → CertWord
 word_of certs.Granted = Granted

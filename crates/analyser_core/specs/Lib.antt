@@ -8,3 +8,4 @@ pub mod Told
 pub mod ReadOff
 pub mod Made
 pub mod MachineRuns
+pub mod Upgrades

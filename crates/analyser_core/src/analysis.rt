@@ -32,7 +32,7 @@ use std::marker::Brand;
 use std::sync::ledger::{Blank, Ledger};
 
 /// A program may have this many heads, nodes where bases of maps are kept.
-const MOST_HEADS: u32 = 4096;
+pub(crate) const MOST_HEADS: u32 = 4096;
 
 /// What an analysis found: the report, and the certificates that it tells.
 #[derive(Debug, Drop)]
@@ -132,7 +132,14 @@ fn analysis_by<L: Ledger>(
     known_states(&reached, small.nodes);
     let inner = inner_states(alloc, program, blocks, &reached, steps)?;
     points.known();
-    let certs = certify(alloc, points, &tracked, program, exits.bases())?;
+    let certs = certify(
+        alloc,
+        points,
+        &tracked,
+        program,
+        exits.bases(),
+        points.procedures(),
+    )?;
     let words = words_of(alloc, certs.as_slice())?;
     let points = told(
         alloc,

@@ -1,14 +1,14 @@
 //! The certificates of a program's procedures, and their words in a report.
 
-ghost use Rattle.std.specs.Prelude.{◌≡◌, ◌≤◌, ◌++◌, ◌∷◌, [], length, map, All, IsTrue, IfOk, IfNone, IfSome, OnOk};
+ghost use Rattle.std.specs.Prelude.{◌≡◌, ◌≤◌, ◌++◌, ◌∷◌, [], length, map, slice_get, All, Contains, IsTrue, Some, IfOk, IfNone, IfSome, OnOk};
 ghost use Rattle.affine_prog.specs.Programs.{IsWellFormed};
 ghost use Rattle.affine_prog.specs.Spans.{AreExits};
 ghost use Rattle.affine_lift.specs.Lifting.{IsLifted};
 ghost use Rattle.report_text.specs.Names.{is_certified};
 ghost use Rattle.report_text.specs.Certificates.{certified_names};
 ghost use Rattle.report_text.specs.declared.names.Name.TheVariants.{Register};
-ghost use Rattle.analyser_core.specs.Certified.{AreCertificatesOf, word_of, told_in, told_of};
-ghost use Rattle.analyser_core.specs.ReadOff.{AreReadOff};
+ghost use Rattle.analyser_core.specs.Certified.{AreCertificatesAt, word_of, told_in, told_of};
+ghost use Rattle.analyser_core.specs.ReadOff.{AreReadOff, IsSummaryOf};
 
 use crate::cert_line::CertLine;
 use abi_cert::laws::certificates_tell_of_paths;
@@ -21,27 +21,47 @@ use report_text::{CertWord, Name, ReportCert, Tracked, is_certified};
 use sqlite_items::Items;
 use std::alloc::Global;
 
-/// The certificates of the program's procedures, from the bases at their exits.
+/// The certificates of some of the program's procedures, from the bases at their exits.
 pub(crate) fn certify(
     alloc: Global,
     points: &Points,
     tracked: &Tracked,
     program: &Program,
     exits: &[MatBasis],
+    procedures: &[u64],
 ) -> Result<Items<CertLine>, Memory>
     requires formed { IsWellFormed program.now }
     requires lifted { IsLifted points.now tracked.now.names program.now }
     requires exits { AreExits program.now exits.now }
-    ensures { IfOk result (AreCertificatesOf program.now points.now tracked.now.names) }
+    requires within { All (Contains points.now.procedures) procedures.now }
+    ensures { IfOk result (AreCertificatesAt program.now points.now tracked.now.names procedures.now) }
 {
     certificates_tell_of_paths();
     let mut certs = Items::new(alloc);
-    for (p, entry) in points.procedures().iter().enumerate() {
-        exits[p].known();
-        let lines = lines_of(alloc, *entry, tracked.names.as_slice(), &exits[p])?;
+    for entry in procedures {
+        let summary = summary_of(points.procedures(), exits, *entry);
+        summary.known();
+        let lines = lines_of(alloc, *entry, tracked.names.as_slice(), summary)?;
         append(&mut certs, lines)?;
     }
     Ok(certs)
+}
+
+// What stands for a procedure among the bases at the exits of all.
+fn summary_of<'a>(procedures: &[u64], exits: &'a [MatBasis], entry: u64) -> &'a MatBasis
+    requires there { Contains procedures.now entry }
+    requires count { length exits.now ≡ length procedures.now }
+    ensures { IsSummaryOf procedures.now exits.now entry result.now }
+{
+    &exits[place_of(procedures, entry)]
+}
+
+// The place of a procedure among all.
+fn place_of(procedures: &[u64], entry: u64) -> usize
+    requires { Contains procedures.now entry }
+    ensures { slice_get procedures.now result ≡ Some entry }
+{
+    procedures.iter().position(|p| *p == entry).unwrap_or(0)
 }
 
 // What a procedure's summary says of each certified register among the names.

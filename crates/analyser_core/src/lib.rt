@@ -5,7 +5,8 @@
 //! affine relations that hold there after every path of that program, and that certifies of each procedure
 //! which of sp, ra and s0 to s11 it leaves as they were. What holds is defined over paths alone
 //! (`affine_prog`), and what the program is, over walks and instructions (`affine_lift`).
-//! [`image_of`] and [`points_of`] are its first steps. Texts, files and commands are left to others.
+//! [`image_of`] and [`points_of`] are its first steps. [`upgrade`] gives a report without certificates those of its
+//! points' procedures. Texts, files and commands are left to others.
 //!
 //! ```text
 //! let analysis = analyse(alloc, &bytes, "sp,ra,0x10080:-8", &mut steps)?;
@@ -21,9 +22,11 @@ mod point_state;
 mod refusal;
 mod states;
 mod tell;
+mod upgrades;
 
 pub use accept::{image_of, points_of};
 pub use analysis::{Analysis, analyse, analyse_uncounted};
 pub use cert_line::CertLine;
 pub use laws::reports_tell_of_runs;
 pub use refusal::Refusal;
+pub use upgrades::{UpgradeRefusal, procedures_of, upgrade, upgrade_uncounted};

@@ -1,5 +1,6 @@
 use Rattle.std.proofs.Common.{refl, arith}
 use Rattle.std.proofs.lemmas.Grind.{merely}
+use Rattle.std.proofs.lemmas.List.Elements.{Contains-get_or}
 use Rattle.block_program.proofs.Lemmas.{formed, exits_alike}
 use Rattle.analyser_core.proofs.PointsTold.{told_ascend, told_rows, told_each}
 use Rattle.analyser_core.proofs.WordsTold.{certs_told}
@@ -17,6 +18,9 @@ certify-requires-clause-exits g c =
     let b = c.requires.blocks in
     rw c.bases-2.ensures
     (exits_alike c.args.program.now b.heads c.args.blocks.now.small c.requires.formed b.small c.in_ok-exits.exits (rw c.small-small.ensures at c.in_ok-exits.ensures.exact))
+
+pub certify-requires-clause-within : goal.certify-requires-clause-within
+certify-requires-clause-within g c = rw c.procedures.ensures (λ k d below. Contains-get_or c.args.points.now.procedures k d below)
 
 pub inner_states-requires-clause-reached : goal.inner_states-requires-clause-reached
 inner_states-requires-clause-reached g c = rw c.small-small.ensures at c.in_ok-reached.ensures.exact
@@ -62,11 +66,12 @@ pub invariant_of-result : goal.invariant_of-result
 invariant_of-result g c =
     let all = c.in_ok-points.ensures.told in
     let words = rw c.as_slice.ensures at c.in_ok-words.ensures in
+    let certified = rw c.procedures.ensures at c.in_ok-certs.ensures in
     record {
       versions = (omega arith, omega arith);
       without = merely (λ one. absurd (omega (arith, one)));
       certified = merely (λ two. certs_told c.args.program.now c.args.points.now c.args.tracked.names c.in_ok-points.points c.in_ok-words.words
-          c.in_ok-certs.certs c.known.ensures all c.in_ok-points.ensures.count c.in_ok-certs.ensures words);
+          c.in_ok-certs.certs c.known.ensures all c.in_ok-points.ensures.count certified words);
       ascending = merely (told_ascend c.args.program.now c.args.points.now c.args.tracked.names c.in_ok-points.points c.known.ensures all);
       reduced = merely (told_rows c.args.program.now c.args.points.now c.args.tracked.names c.in_ok-points.points all);
     }
@@ -82,7 +87,7 @@ returns-clause-made g c =
       few_heads = record { heads = b.heads; numbers = s.numbers; few = omega (arith, c.requires.few, s.nodes) };
       is_report = record {
         version_is = refl;
-        certified = c.in_ok-certs.ensures;
+        certified = rw c.procedures.ensures at c.in_ok-certs.ensures;
         words = rw c.as_slice.ensures at c.in_ok-words.ensures;
         names_are = refl;
         count = c.in_ok-points.ensures.count;

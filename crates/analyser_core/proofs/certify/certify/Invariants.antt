@@ -2,5 +2,5 @@
 use Rattle.analyser_core.proofs.LinesRead.{AreOfFirst}
 use Rattle.analyser_core.proofs.certify.certify.Given as goal
 
-abbrev pub invariant-loop-p : goal.invariant-loop-p
-invariant-loop-p l = AreOfFirst l.program l.points l.tracked.names l.p l.certs
+abbrev pub invariant-loop-entry : goal.invariant-loop-entry
+invariant-loop-entry l = AreOfFirst l.program l.points l.tracked.names l.procedures l.entry-index l.certs
