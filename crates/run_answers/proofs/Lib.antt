@@ -1,0 +1,4 @@
+pub mod FilesReports
+mod FourFound
+mod KnownReports
+pub mod OwnReports
