@@ -7,26 +7,35 @@ TRACK = sp,ra,s0,a0$(if $(filter $(EXAMPLE),$(FILE)),$(COMMA)$(SLOTS))
 COMMA = ,
 export FILE TRACK
 
-.PHONY: help demo analyse cert list build test bench
+REPORT = $(if $(filter $(EXAMPLE),$(FILE)),examples/saved_registers.report)
+STEPS = 1000
+REGS =
+export REPORT STEPS REGS
+
+.PHONY: help demo analyse cert list run upgrade build test bench
 
 help:
 	@echo 'make demo                       the report of $(EXAMPLE)    under a minute'
 	@echo 'make analyse FILE=F TRACK=LIST  the report of F for the names of LIST          under a minute for small files'
 	@echo 'make cert FILE=F TRACK=LIST     which registers its procedures give back        under a minute for small files'
 	@echo 'make list FILE=F                the code of F that can be reached              under a minute for small files'
+	@echo 'make run FILE=F REPORT=R STEPS=N REGS=..  a run of F against the report R, with these registers      under a minute for small files'
+	@echo 'make upgrade FILE=F REPORT=R    the report R with certificates                 under a minute for small files'
 	@echo 'make build                      proves and builds the program                  half an hour or more where nothing is kept'
 	@echo 'make bench                      times of the built program on files of growing size   some seconds'
 	@echo 'make test                       the whole test, rt ci                          an hour or more where nothing is kept'
 	@echo
-	@echo 'demo, analyse, cert and list build anew and prove nothing; rt ci proves the same sources.'
+	@echo 'demo, analyse, cert, list, run and upgrade build anew and prove nothing; rt ci proves the same sources.'
 	@echo 'make build leaves the program at $(PROGRAM); run it as'
 	@echo '  $(PROGRAM) analyse FILE --track LIST'
 
-# What the program, built without proofs, says to an order about `file.elf`, which is FILE. Its status is told and is no
-# fault of make; a build that fails is one.
+# What the program, built without proofs, says to an order about `file.elf`, which is FILE, and `file.report`, which is REPORT.
+# Its status is told and is no fault of make; a build that fails is one.
 define unproved
 @case $$FILE in /*) ;; *) FILE=$$PWD/$$FILE ;; esac; \
+case $$REPORT in /*) ;; *) REPORT=$$PWD/$$REPORT ;; esac; \
 if test -f "$$FILE"; then set -- --data "file.elf=$$FILE"; else set --; fi; \
+if test -f "$$REPORT"; then set -- "$$@" --data "file.report=$$REPORT"; fi; \
 log=$$(mktemp) && trap 'rm -f "$$log"' EXIT && cd crates/analyser_main && \
 { rt try "$$@" -- $(1) 2>"$$log"; status=$$?; } && \
 if grep -q '^run=ended' "$$log"; \
@@ -44,6 +53,12 @@ cert:
 
 list:
 	$(call unproved,list file.elf)
+
+run:
+	$(call unproved,run file.elf file.report --steps "$$STEPS" $${REGS:+--regs "$$REGS"})
+
+upgrade:
+	$(call unproved,upgrade file.elf file.report)
 
 build:
 	@cd crates/analyser_main && rt run -- list ../../examples/one_register.elf

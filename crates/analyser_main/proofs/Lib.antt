@@ -2,9 +2,14 @@ mod PointsListed
 mod RepliesGiven
 mod TooLong
 mod Refused
+mod LowStatuses
 mod NoFault
 mod WordsRead
 mod CountsRead
 mod RowsTold
 mod OutOfRange
+mod InputsRead
+mod OverBoth
+mod ReportsDone
+mod FewSteps
 mod OrdersDone

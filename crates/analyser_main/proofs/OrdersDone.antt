@@ -5,14 +5,17 @@ use Rattle.analyser_core.specs.Heads.{most_heads}
 use Rattle.analyser_core.specs.Accepted.{IsRefusal}
 use Rattle.analyser_core.specs.declared.cert_line.CertLine.{CertLine}
 use Rattle.analyser_core.specs.declared.refusal.Refusal.{Refusal}
-use Rattle.analyser_core.specs.declared.refusal.Refusal.TheVariants.{Elf, Flow, Track, Heads, Memory}
+use Rattle.analyser_core.specs.declared.refusal.Refusal.TheVariants.{Elf, Flow, Track, Heads}
 use Rattle.report_text.specs.declared.reports.Report.{Report}
-use Rattle.analyser_main.specs.Orders.{Order, Usage, Analyse, Certify, ListCode, Generate}
-use Rattle.analyser_main.specs.Answers.{Call, IsRefused, too_long, no_image, bad_flow, report_text, IsAnswer, refused, no_list, crowded, analysed, IsListing, listed, IsGenAnswer, out_of_range, generated, IsAnswerOver, Ends, answered, read_fault, no_memory, IsCarriedOut}
+use Rattle.analyser_main.specs.Orders.{Order, Usage, Analyse, Certify, ListCode, CheckRun, Generate, Upgrade}
+use Rattle.analyser_main.specs.Answers.{Call, report_text, IsAnswer, refused, no_list, crowded, analysed, IsListing, listed, IsGenAnswer, out_of_range, generated, IsAnswerOver, Ends, answered, read_fault, no_memory, no_registers, run, no_start, IsCarriedOut}
+use Rattle.analyser_main.specs.FileRefusals.{too_long, no_image, bad_flow}
 use Rattle.analyser_main.specs.CertsText.{certs_text}
 use Rattle.analyser_main.specs.GenText.{gen_text}
 use Rattle.analyser_main.specs.Replies.{IsListRefusal}
-use Rattle.analyser_main.specs.Completeness.{IsUnrefused, IsTold, IsUnhindered, Done, IsDone}
+use Rattle.analyser_main.specs.Completeness.{IsUnrefused, IsTold, IsReportFor, IsOld, IsUnhindered, Checked, Done, IsDone}
+use Rattle.analyser_main.specs.ReportAnswers.{IsStart, IsRun, IsUpgrade}
+use Rattle.analyser_main.proofs.ReportsDone.{both_done, run_done, upgrade_done}
 
 answer_done : (told : Report → List CertLine → List ℕ) (list bytes : List ℕ) (status : ℕ) (text : List ℕ) →
     IsUnrefused (IsRefusal bytes list) bytes → IsAnswer told list bytes status text → status ≡ 0
@@ -58,6 +61,10 @@ over_done : (contents : Option (List ℕ)) (IsCause : List ℕ → Refusal → T
 over_done (Some bytes) IsCause answer zero free status text is = (is, zero bytes status text free is)
 over_done None IsCause answer zero free status text is = absurd free
 
+one_start : (regs : Option (List ℕ)) (start : List ℕ) → IsStart regs (Some start) → IsStart regs None → ⊥
+one_start None start is none = cc none
+one_start (Some text) start is none = none is.list
+
 pub order_done : (order : Order) (c : Call) (answer : ℕ) → IsUnhindered order c → IsCarriedOut order c answer → IsDone order c answer
 order_done Usage c answer free is = absurd free
 order_done (Analyse file list) c answer free is =
@@ -66,5 +73,21 @@ order_done (Certify file list) c answer free is =
     ends_done _ _ _ c answer (over_done (c.contents file) (λ bytes. IsRefusal bytes list) (IsAnswer certs_text list) (answer_done certs_text list) free) is
 order_done (ListCode file) c answer free is =
     ends_done _ _ _ c answer (over_done (c.contents file) IsListRefusal IsListing listing_done free) is
+order_done (CheckRun file report steps regs) c answer ((start, starts), free) (no_registers none is) = absurd (one_start regs start starts none)
+order_done (CheckRun file report steps regs) c answer ((start, starts), free) (run start' starts' is) =
+    inl (
+      start',
+      starts',
+      ends_done _ _ _ c answer
+          (both_done (c.contents file) (c.contents report) (λ bytes told. (old : Report) × IsReportFor bytes told old) (IsRun start' steps)
+          (λ bytes told. Checked (IsRun start' steps bytes told))
+          (λ bytes told status text accepted (old, of) is. (is, run_done bytes told accepted old of start' steps status text is)) free) is,
+    )
+order_done (CheckRun file report steps regs) c answer free (no_start said) = inr said
 order_done (Generate n list) c answer free is =
     ends_done _ _ _ c answer (λ status text is. (is, gen_done n list c status text free is)) is
+order_done (Upgrade file report) c answer free is =
+    ends_done _ _ _ c answer
+    (both_done (c.contents file) (c.contents report) (λ bytes told. (old : Report) × IsReportFor bytes told old × IsOld bytes old) IsUpgrade
+    (λ bytes told. Done (IsUpgrade bytes told))
+    (λ bytes told status text accepted (old, of, new) is. (is, upgrade_done bytes told accepted old of status text new is)) free) is

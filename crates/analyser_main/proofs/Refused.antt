@@ -1,13 +1,16 @@
--- The answer to a file or a list that is refused.
+-- The answers to a file, its code or a list that is refused.
 use Rattle.std.proofs.Common.{◌≤◌, ℕ, List, length, refl, ap, ◌∙◌}
 use Rattle.report_text.specs.declared.reports.Report.{Report}
 use Rattle.analyser_core.specs.declared.cert_line.CertLine.{CertLine}
 use Rattle.analyser_core.specs.declared.refusal.Refusal.{Refusal}
 use Rattle.analyser_core.specs.declared.refusal.Refusal.TheVariants.{Elf, Flow, Track, Heads, Memory}
-use Rattle.analyser_core.specs.Accepted.{most_bytes, IsRefusal}
+use Rattle.elf_image.specs.declared.image.Image.{Image}
+use Rattle.analyser_core.specs.Accepted.{most_bytes, IsCodeRefusal, IsFileRefusal, IsImageOf, IsRefusal}
 use Rattle.analyser_main.specs.Lines.{IsLineOf, heads_line}
 use Rattle.analyser_main.specs.Answers as answers
-use Rattle.analyser_main.specs.Answers.{no_image, bad_flow, no_list, crowded, IsAnswer}
+use Rattle.analyser_main.specs.Answers.{no_list, crowded, IsAnswer}
+use Rattle.analyser_main.specs.FileRefusals.{IsRefused, no_image, bad_flow}
+use Rattle.analyser_main.specs.Replies.{IsListRefusal}
 
 pub answer_refused : (told : Report → List CertLine → List ℕ) (list bytes : List ℕ) (refusal : Refusal) (text : List ℕ) → length bytes ≤ most_bytes →
     IsRefusal bytes list refusal → IsLineOf bytes refusal text → IsAnswer told list bytes 1 text
@@ -17,3 +20,25 @@ answer_refused told list bytes (Flow refusal) text short is line =
 answer_refused told list bytes (Track refusal) text short is line = no_list 1 text is.0 is.1 refusal short is.2 is.3 is.4 is.5 refl line
 answer_refused told list bytes (Heads limit) text short is line = crowded 1 text short is.1 refl (line ∙ ap heads_line is.0)
 answer_refused told list bytes Memory text short is line = absurd line
+
+pub file_refused : (bytes : List ℕ) (refusal : Refusal) (text : List ℕ) → length bytes ≤ most_bytes → IsListRefusal bytes refusal →
+    IsLineOf bytes refusal text → IsRefused bytes 1 text
+file_refused bytes (Elf refusal) text short is line = no_image 1 text refusal short is refl line
+file_refused bytes (Flow refusal) text short is line = bad_flow 1 text is.0 refusal short is.1 is.2 refl line
+file_refused bytes (Track refusal) text short is line = absurd is
+file_refused bytes (Heads limit) text short is line = absurd is
+file_refused bytes Memory text short is line = absurd line
+
+pub bytes_refused : (bytes : List ℕ) (refusal : Refusal) → IsFileRefusal bytes refusal → IsListRefusal bytes refusal
+bytes_refused bytes (Elf refusal) is = is
+bytes_refused bytes (Flow refusal) is = absurd is
+bytes_refused bytes (Track refusal) is = is
+bytes_refused bytes (Heads limit) is = is
+bytes_refused bytes Memory is = tt
+
+pub code_refused : (bytes : List ℕ) (image : Image) (refusal : Refusal) → IsImageOf bytes image → IsCodeRefusal image refusal → IsListRefusal bytes refusal
+code_refused bytes image (Elf refusal) of is = absurd is
+code_refused bytes image (Flow refusal) of is = (image, of, is)
+code_refused bytes image (Track refusal) of is = is
+code_refused bytes image (Heads limit) of is = is
+code_refused bytes image Memory of is = tt

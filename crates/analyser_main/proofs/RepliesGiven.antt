@@ -6,8 +6,8 @@ use Rattle.std.specs.Result.{IfOk}
 use Rattle.outside.specs.Counts.{HasRisen}
 use Rattle.analyser_main.specs.declared.Reply.{Reply}
 use Rattle.analyser_main.specs.declared.Reply.TheVariants.{Whole, ReadFault, OutOfMemory}
-use Rattle.analyser_main.specs.Orders.{Order, Usage, Analyse, Certify, ListCode, Generate}
-use Rattle.analyser_main.specs.Answers.{Call, Ends, IsCarriedOut, SaysIn, answered, read_fault, no_memory, no_memory_text}
+use Rattle.analyser_main.specs.Orders.{Order, Usage, Analyse, Certify, ListCode, CheckRun, Generate, Upgrade}
+use Rattle.analyser_main.specs.Answers.{Call, Ends, IsCarriedOut, SaysIn, answered, read_fault, no_memory, no_start, no_memory_text}
 use Rattle.analyser_main.specs.Replies.{AnswersWith, IsReplyOf, SaysReply}
 
 pub reply_answers : (Is : ℕ → List ℕ → Type 0) (Rose : Type 0) (answer : Result (ℕ × Vec ℕ Global) AllocError) (reply : Reply) →
@@ -27,4 +27,6 @@ memory_wanting Usage c answer said = no_memory answer said
 memory_wanting (Analyse file list) c answer said = no_memory answer said
 memory_wanting (Certify file list) c answer said = no_memory answer said
 memory_wanting (ListCode file) c answer said = no_memory answer said
+memory_wanting (CheckRun file report steps regs) c answer said = no_start said
 memory_wanting (Generate n list) c answer said = no_memory answer said
+memory_wanting (Upgrade file report) c answer said = no_memory answer said

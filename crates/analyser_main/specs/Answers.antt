@@ -4,8 +4,6 @@
 --                                     each name's count of faults before it and after it, the bytes written before and after,
 --                                     where the sink tells them, and the sink's count before and after
 --   call .. files files' out out'     the call between these files and sinks, by what their types tell
---   IsRefused bytes status text       what every order over a file gets for bytes that are too many, or no image,
---                                     or whose code is refused for its flow
 --   report_text report certs          the text of the report
 --   IsAnswer told list bytes status text   what an order with a list answers over a file with these bytes, where told is
 --                                     the text for a report and certificates
@@ -19,23 +17,25 @@
 --   Says old new status text Rose answer
 --                                     the text was put whole, and the answer is the status; or a put failed behind a prefix
 --                                     of it, for the cause Rose, and the answer is 4
+--   IsOverBoth contents other answer ..   the same over the contents of a file and of a report
 --   read_fault_text, no_memory_text   the lines of a read fault and of want of memory
 --   SaysIn call status text answer    the same of the call's sink, whose count rose where a put failed
 --   Ends Is Rose call answer          a call ends by saying a status and a text of which Is holds; or the line of a read fault,
 --                                     whose cause is Rose; or that of want of memory
 --   EndsOver file Is call answer      the same of an order over a file, where Is speaks of the file's bytes and a read fault
 --                                     comes only where the count of the file's faults rose
+--   IsCodeOver contents               a file with these contents, or one whose contents aren't told, is accepted
+--   IsReadFault contents Rose ReportRose   the cause of a read fault of an order over a file and a report: that of the file's; or
+--                                     that of the report's, which is read only where the file is accepted
+--   EndsOverBoth file report Is call answer   a call of an order over a file and a report ends so
+--   IsRunOrder file report steps regs call answer   a call that is to check a run ends so: where the registers are none, as one
+--                                     whose arguments are no order
 --   IsCarriedOut order call answer    the call ends as the order has it
-use Rattle.std.specs.Prelude.{◌≡◌, ◌≢◌, ℕ, ◌<◌, ◌≤◌, List, ◌++◌, Option, Some, None, length, codes}
+use Rattle.std.specs.Prelude.{◌≡◌, ◌≢◌, ℕ, ◌≤◌, ◌⊎◌, List, ◌++◌, Option, Some, None, length, codes}
 use Rattle.outside.specs.Counts.{HasRisen}
 use Rattle.outside.specs.Written.{Gains, GainsPrefix}
 use Rattle.elf_image.specs.declared.image.Image.{Image}
-use Rattle.elf_image.specs.declared.refusal.ElfRefusal.{ElfRefusal}
-use Rattle.elf_image.specs.Fields.{unit_of}
-use Rattle.elf_image.specs.Refusals.{refusal_of}
-use Rattle.flow_points.specs.Refusals.{IsFlowRefusal}
 use Rattle.flow_points.specs.PointLists.{FlowPoints}
-use Rattle.flow_points.specs.declared.refusal.FlowRefusal.{FlowRefusal}
 use Rattle.gen_elf.specs.Generated.{IsGenerated, IsOutOfRange}
 use Rattle.affine_lift.specs.Tracking.{IsTrackRefusal, scope_of}
 use Rattle.affine_lift.specs.declared.refusal.TrackRefusal as tracks
@@ -46,8 +46,10 @@ use Rattle.analyser_core.specs.Heads.{most_heads}
 use Rattle.analyser_core.specs.Accepted.{most_bytes, IsImageOf, HasPoints, IsCrowded}
 use Rattle.analyser_core.specs.Reports.{IsReportOver}
 use Rattle.analyser_core.specs.declared.cert_line.CertLine.{CertLine}
-use Rattle.analyser_main.specs.Orders.{Order, Usage, Analyse, Certify, ListCode, Generate}
-use Rattle.analyser_main.specs.Lines.{elf_line, flow_line, range_line, track_line, heads_line, too_long_line}
+use Rattle.analyser_main.specs.Orders.{Order, Usage, Analyse, Certify, ListCode, CheckRun, Generate, Upgrade}
+use Rattle.analyser_main.specs.Lines.{range_line, track_line, heads_line}
+use Rattle.analyser_main.specs.FileRefusals.{IsRefused, IsCode}
+use Rattle.analyser_main.specs.ReportAnswers.{IsStart, IsRun, IsUpgrade}
 use Rattle.analyser_main.specs.PointsList.{list_text}
 use Rattle.analyser_main.specs.CertsText.{certs_text}
 use Rattle.analyser_main.specs.GenText.{gen_text}
@@ -71,13 +73,6 @@ call contents faults written sink_faults files files' out out' = record {
   sink_before = sink_faults out;
   sink_after = sink_faults out';
 }
-
-pub data IsRefused (bytes : List ℕ) : ℕ → List ℕ → Type 0 where
-  too_long : (status : ℕ) (text : List ℕ) → most_bytes < length bytes → status ≡ 1 → text ≡ too_long_line → IsRefused bytes status text
-  no_image : (status : ℕ) (text : List ℕ) (refusal : ElfRefusal) → length bytes ≤ most_bytes → refusal_of bytes ≡ Some refusal →
-      status ≡ 1 → text ≡ elf_line refusal → IsRefused bytes status text
-  bad_flow : (status : ℕ) (text : List ℕ) (image : Image) (refusal : FlowRefusal) → length bytes ≤ most_bytes → IsImageOf bytes image →
-      IsFlowRefusal image refusal → status ≡ 1 → text ≡ flow_line (unit_of bytes) refusal → IsRefused bytes status text
 
 abbrev pub report_text : Report → List CertLine → List ℕ
 report_text report certs = text_of report
@@ -111,11 +106,14 @@ pub data IsGenAnswer (n : ℕ) (list : List ℕ) : ℕ → List ℕ → Type 0 w
 pub record IsUsage (status : ℕ) (text : List ℕ) : Type 0 where
   pub status_is : status ≡ 2
   pub text_is : text ≡ codes "usage:" ++ nl ++ codes "analyse FILE --track LIST" ++ nl ++ codes "cert FILE --track LIST" ++ nl ++ codes "list FILE" ++ nl
-      ++ codes "gen N --track LIST" ++ nl
+      ++ codes "run FILE REPORT --steps N [--regs R]" ++ nl ++ codes "gen N --track LIST" ++ nl ++ codes "upgrade FILE REPORT" ++ nl
 
 abbrev pub IsAnswerOver : Option (List ℕ) → (List ℕ → ℕ → List ℕ → Type 0) → ℕ → List ℕ → Type 0
 IsAnswerOver (Some bytes) answer status text = answer bytes status text
 IsAnswerOver None answer status text = (bytes : List ℕ) × answer bytes status text
+
+abbrev pub IsOverBoth : Option (List ℕ) → Option (List ℕ) → (List ℕ → List ℕ → ℕ → List ℕ → Type 0) → ℕ → List ℕ → Type 0
+IsOverBoth file report answer = IsAnswerOver file (λ bytes. IsAnswerOver report (answer bytes))
 
 abbrev pub read_fault_text : List ℕ
 read_fault_text = codes "read fault" ++ nl
@@ -138,9 +136,30 @@ pub data Ends (Is : ℕ → List ℕ → Type 0) (Rose : Type 0) (c : Call) : �
 abbrev pub EndsOver : List ℕ → (List ℕ → ℕ → List ℕ → Type 0) → Call → ℕ → Type 0
 EndsOver file Is c answer = Ends (IsAnswerOver (c.contents file) Is) (HasRisen (c.faults_before file) (c.faults_after file)) c answer
 
+abbrev pub IsCodeOver : Option (List ℕ) → Type 0
+IsCodeOver (Some bytes) = (image : Image) × (points : FlowPoints) × IsCode bytes image points
+IsCodeOver None = (bytes : List ℕ) × (image : Image) × (points : FlowPoints) × IsCode bytes image points
+
+abbrev pub IsReadFault : Option (List ℕ) → Type 0 → Type 0 → Type 0
+IsReadFault file Rose ReportRose = Rose ⊎ (IsCodeOver file × ReportRose)
+
+abbrev pub EndsOverBoth : List ℕ → List ℕ → (List ℕ → List ℕ → ℕ → List ℕ → Type 0) → Call → ℕ → Type 0
+EndsOverBoth file report Is c answer =
+    Ends (IsOverBoth (c.contents file) (c.contents report) Is)
+    (IsReadFault (c.contents file) (HasRisen (c.faults_before file) (c.faults_after file)) (HasRisen (c.faults_before report) (c.faults_after report)))
+    c answer
+
+pub data IsRunOrder (file report : List ℕ) (steps : ℕ) (regs : Option (List ℕ)) (c : Call) (answer : ℕ) : Type 0 where
+  no_registers : IsStart regs None → Ends IsUsage ⊥ c answer → IsRunOrder file report steps regs c answer
+  run : (start : List ℕ) → IsStart regs (Some start) → EndsOverBoth file report (IsRun start steps) c answer
+      → IsRunOrder file report steps regs c answer
+  no_start : SaysIn c 5 no_memory_text answer → IsRunOrder file report steps regs c answer
+
 abbrev pub IsCarriedOut : Order → Call → ℕ → Type 0
 IsCarriedOut Usage c answer = Ends IsUsage ⊥ c answer
 IsCarriedOut (Analyse file list) c answer = EndsOver file (IsAnswer report_text list) c answer
 IsCarriedOut (Certify file list) c answer = EndsOver file (IsAnswer certs_text list) c answer
 IsCarriedOut (ListCode file) c answer = EndsOver file IsListing c answer
+IsCarriedOut (CheckRun file report steps regs) c answer = IsRunOrder file report steps regs c answer
 IsCarriedOut (Generate n list) c answer = Ends (IsGenAnswer n list) ⊥ c answer
+IsCarriedOut (Upgrade file report) c answer = EndsOverBoth file report IsUpgrade c answer

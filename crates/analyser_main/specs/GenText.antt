@@ -10,7 +10,6 @@ use Rattle.std.specs.Prelude.{ℕ, Bool, true, false, List, ◌++◌, length, su
 use Rattle.number_text.specs.Numerals.{dec}
 use Rattle.report_text.specs.Text.{nl}
 use Rattle.report_text.specs.Certificates.{procedures_of}
-use Rattle.report_text.specs.declared.points.PointRows.{PointRows}
 use Rattle.report_text.specs.declared.points.PointState.{PointState}
 use Rattle.report_text.specs.declared.points.PointState.TheVariants.{Unreached, Rows}
 use Rattle.report_text.specs.declared.reports.Report.{Report}

@@ -4,6 +4,8 @@ pub mod Lines
 pub mod PointsList
 pub mod CertsText
 pub mod GenText
+pub mod FileRefusals
+pub mod ReportAnswers
 pub mod Answers
 pub mod Replies
 pub mod Completeness

@@ -11,6 +11,9 @@
 --   heads_line limit      the line of a program with more heads than that
 --   range_line n          the line for a number of procedures that is out of range
 --   too_long_line         the line for a file with too many bytes
+--   report_too_long_line  the line for a report with too many bytes
+--   upgrade_line refusal  the line of what the upgrade of a report is refused for, and upgrade_status refusal its status. Want of
+--                         memory has none
 --   IsLineOf bytes refusal text
 --                         the text is the line of what these bytes are refused for; want of memory has none
 use Rattle.std.specs.Prelude.{◌≡◌, ℕ, ◌%◌, ◌^◌, List, [], ◌++◌, codes}
@@ -26,6 +29,10 @@ use Rattle.flow_points.specs.declared.refusal.FlowRefusal.{FlowRefusal}
 use Rattle.flow_points.specs.declared.refusal.FlowRefusal.TheVariants.{TooManyPoints, OutsideCode, NoInstruction, OddLink, IndirectJump, MisalignedTarget, IntoPair}
 use Rattle.analyser_core.specs.declared.refusal.Refusal as refusals
 use Rattle.analyser_core.specs.declared.refusal.Refusal.{Refusal}
+use Rattle.analyser_core.specs.declared.upgrades.UpgradeRefusal as upgrades
+use Rattle.analyser_core.specs.declared.upgrades.UpgradeRefusal.{UpgradeRefusal}
+use Rattle.analyser_core.specs.declared.upgrades.UpgradeRefusal.TheVariants.{AlreadyNew, NotAPoint}
+use Rattle.run_answers.specs.Lines.{stranger_line}
 use Rattle.affine_lift.specs.declared.refusal.TrackRefusal.{TrackRefusal}
 use Rattle.analyser_main.specs.PointsList.{word_text}
 use Rattle.affine_lift.specs.declared.refusal.TrackRefusal as tracks
@@ -89,6 +96,21 @@ range_line n = refused (valued (codes "Range") (dec n))
 
 abbrev pub too_long_line : List ℕ
 too_long_line = refused (codes "TooLong 16777216")
+
+abbrev pub report_too_long_line : List ℕ
+report_too_long_line = refused (codes "report TooLong 268435456")
+
+abbrev pub upgrade_line : UpgradeRefusal → List ℕ
+upgrade_line AlreadyNew = refused (codes "report AlreadyNew")
+upgrade_line (NotAPoint a) = stranger_line a
+upgrade_line (upgrades.TheVariants.Heads limit) = heads_line limit
+upgrade_line upgrades.TheVariants.Memory = []
+
+abbrev pub upgrade_status : UpgradeRefusal → ℕ
+upgrade_status AlreadyNew = 6
+upgrade_status (NotAPoint a) = 6
+upgrade_status (upgrades.TheVariants.Heads limit) = 1
+upgrade_status upgrades.TheVariants.Memory = 5
 
 abbrev pub IsLineOf : List ℕ → Refusal → List ℕ → Type 0
 IsLineOf bytes (refusals.TheVariants.Elf refusal) text = text ≡ elf_line refusal

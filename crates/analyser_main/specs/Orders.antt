@@ -3,20 +3,28 @@
 -- both give the option its value, options may stand before, between and behind positions, and behind `--` each word is a position.
 -- Values are plain text, judged by this program's own rules.
 --
+--   Order                  an order, one of these:
 --   Usage                  words that are no order
 --   Analyse file list      `analyse FILE --track LIST`
 --   Certify file list      `cert FILE --track LIST`
 --   ListCode file          `list FILE`
+--   CheckRun file report steps regs   `run FILE REPORT --steps N`, and with `--regs R`, where regs is R
 --   Generate n list        `gen N --track LIST`
+--   Upgrade file report    `upgrade FILE REPORT`
 --   texts_of words         the bytes of each word
 --   position name          the rule of a required position of this name
 --   option name            the rule of a required option `--name`, which takes one value and may stand once
+--   optional name          the same of one that may be left out
 --   command name rules     the command of this name with these arguments, and with no flags of its own for help and version
+--   bare_command name      the command of this name without arguments
 --   file_command name      the command with FILE
 --   track_command name over  the command with --track and this position
+--   report_command name    the command with FILE and REPORT
+--   run_command name       the same with --steps and --regs, of which --regs may be left out
 --   has_none faults        there are no faults
 --   is_taken app words     the command takes the words
---   value_in app words name  the value that an argument has in words that are taken; a required one has some
+--   given_in app words name  the value that an argument has in words that are taken, if it has one
+--   value_in app words name  that value; a required argument has some
 --   most_count             the greatest number in an order
 --   is_numeral text        some digits
 --   has_zeros text         a zero stands before other bytes
@@ -24,8 +32,10 @@
 --   count_of text          that number
 --   when_taken app words order  the order that the values make, where the command takes the words
 --   generate_of n list     the order to generate, where there is a number
+--   run_of steps file report regs   the order of a run, where there is a number of steps
+--   HasFewSteps order      the order makes no more steps than the greatest number
 --   order_of words         the order that the words are
-use Rattle.std.specs.Prelude.{ℕ, Bool, ◌&&◌, not, ◌==◌, nat_le, nat_lt, List, [], ◌∷◌, map, length, slice_index, codes, if◌then◌else◌, Option, Some, None, unwrap_or, true, false, String, string_bytes}
+use Rattle.std.specs.Prelude.{ℕ, ◌≤◌, Bool, ◌&&◌, not, ◌==◌, nat_le, nat_lt, List, [], ◌∷◌, map, length, slice_index, codes, if◌then◌else◌, Option, Some, None, unwrap_or, true, false, String, string_bytes}
 use Rattle.std.specs.List.{list_all}
 use Rattle.std.specs.Str.{bytes_eq}
 use Rattle.std.specs.Str.Parse.{digits_value}
@@ -40,7 +50,9 @@ pub data Order : Type 0 where
   Analyse : (file list : List ℕ) → Order
   Certify : (file list : List ℕ) → Order
   ListCode : (file : List ℕ) → Order
+  CheckRun : (file report : List ℕ) (steps : ℕ) (regs : Option (List ℕ)) → Order
   Generate : (n : ℕ) (list : List ℕ) → Order
+  Upgrade : (file report : List ℕ) → Order
 
 abbrev pub texts_of : List (String Global) → List (List ℕ)
 texts_of words = map (λ w. string_bytes w) words
@@ -50,6 +62,9 @@ position name = record (new_rule name) { required = true; action = Some Set }
 
 abbrev pub option : List ℕ → Rule
 option name = record (new_rule name) { long = Some name; required = true; action = Some Set }
+
+abbrev pub optional : List ℕ → Rule
+optional name = record (new_rule name) { long = Some name; action = Some Set }
 
 abbrev pub bare_command : List ℕ → App
 bare_command name =
@@ -61,6 +76,12 @@ file_command name = with_rule (bare_command name) (position (codes "file"))
 unfoldable pub track_command : List ℕ → List ℕ → App
 track_command name over = with_rule (with_rule (bare_command name) (position over)) (option (codes "track"))
 
+unfoldable pub report_command : List ℕ → App
+report_command name = with_rule (with_rule (bare_command name) (position (codes "file"))) (position (codes "report"))
+
+unfoldable pub run_command : List ℕ → App
+run_command name = with_rule (with_rule (report_command name) (option (codes "steps"))) (optional (codes "regs"))
+
 abbrev pub has_none : Kinds → Bool
 has_none [] = true
 has_none (fault ∷ faults) = false
@@ -68,8 +89,11 @@ has_none (fault ∷ faults) = false
 unfoldable pub is_taken : App → List (List ℕ) → Bool
 is_taken app words = has_none (fault_of app words)
 
-unfoldable pub value_in : App → List (List ℕ) → List ℕ → List ℕ
-value_in app words name = unwrap_or (first_of name (matches_of app words)) []
+unfoldable pub given_in : App → List (List ℕ) → List ℕ → Option (List ℕ)
+given_in app words name = first_of name (matches_of app words)
+
+abbrev pub value_in : App → List (List ℕ) → List ℕ → List ℕ
+value_in app words name = unwrap_or (given_in app words name) []
 
 abbrev pub most_count : ℕ
 most_count = 1000000000
@@ -93,6 +117,10 @@ abbrev pub generate_of : Option ℕ → List ℕ → Order
 generate_of None list = Usage
 generate_of (Some n) list = Generate n list
 
+abbrev pub run_of : Option ℕ → List ℕ → List ℕ → Option (List ℕ) → Order
+run_of None file report regs = Usage
+run_of (Some steps) file report regs = CheckRun file report steps regs
+
 abbrev pub order_of : List (List ℕ) → Order
 order_of [] = Usage
 order_of (command ∷ words) =
@@ -103,4 +131,13 @@ order_of (command ∷ words) =
     else if bytes_eq command (codes "list") then when_taken (file_command command) words (λ value. ListCode (value (codes "file")))
     else if bytes_eq command (codes "gen")
     then when_taken (track_command command (codes "n")) words (λ value. generate_of (count_of (value (codes "n"))) (value (codes "track")))
+    else if bytes_eq command (codes "run")
+    then when_taken (run_command command) words (λ value. run_of (count_of (value (codes "steps"))) (value (codes "file")) (value (codes "report"))
+    (given_in (run_command command) words (codes "regs")))
+    else if bytes_eq command (codes "upgrade")
+    then when_taken (report_command command) words (λ value. Upgrade (value (codes "file")) (value (codes "report")))
     else Usage
+
+abbrev pub HasFewSteps : Order → Type 0
+HasFewSteps (CheckRun file report steps regs) = steps ≤ most_count
+HasFewSteps order = Unit {0}

@@ -1,8 +1,7 @@
 //! The certificates of an analysis, as text.
 
-ghost use Rattle.std.specs.Prelude.{◌≡◌, ◌++◌, flat_map, map, All, IsTrue, IfOk, OnOk};
+ghost use Rattle.std.specs.Prelude.{◌≡◌, ◌++◌, flat_map, All, IsTrue, IfOk, OnOk};
 ghost use Rattle.report_text.specs.Names.{is_certified};
-ghost use Rattle.report_text.specs.Certificates.{procedures_of};
 ghost use Rattle.report_text.specs.Text.{cert_word_text};
 ghost use Rattle.analyser_core.specs.Certified.{word_of};
 ghost use Rattle.analyser_main.specs.CertsText.{line_text, own_line_text, procedure_text, certs_text};
@@ -10,8 +9,8 @@ ghost use Rattle.analyser_main.specs.CertsText.{line_text, own_line_text, proced
 use crate::names_text::push_names;
 use crate::points_list::push_opening;
 use abi_cert::Cert;
-use analyser_core::CertLine;
-use report_text::{PointRows, Report};
+use analyser_core::{CertLine, procedures_of};
+use report_text::Report;
 use rv_decode::register_name;
 use std::alloc::{AllocError, Global};
 
@@ -31,21 +30,6 @@ pub fn write_certs(
     push_procedures(&mut text, &procedures, certs)?;
     text.extend_from_slice(b"end\n")?;
     Ok(text)
-}
-
-/// The procedures of points, each once where they ascend.
-pub fn procedures_of(alloc: Global, points: &[PointRows]) -> Result<Vec<u64>, AllocError>
-    ensures { IfOk result (λ procedures. procedures.items ≡ procedures_of points.now) }
-{
-    let mut procedures = entries_of(alloc, points)?;
-    procedures.dedup();
-    Ok(procedures)
-}
-
-fn entries_of(alloc: Global, points: &[PointRows]) -> Result<Vec<u64>, AllocError>
-    ensures { IfOk result (λ entries. entries.items ≡ map (λ point. point.proc_entry) points.now) }
-{
-    points.iter().map(|point| point.proc_entry).collect(alloc)
 }
 
 fn push_procedures(

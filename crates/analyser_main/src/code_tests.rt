@@ -1,7 +1,7 @@
 //! Worked reports and certificates, of straight code and of code with calls.
 
 use crate::tests::{CALL, EBREAK, answer_to, file_of, one_file, small_file, words_of};
-use crate::top_call::affine_main;
+use crate::top_call::run;
 use outside::MemSink;
 use std::alloc::{AllocError, Global};
 use std::test::Fail;
@@ -59,7 +59,7 @@ fn relations_of_straight_code(rt: HostRuntime) -> Result<(), Fail> {
         let mut out = MemSink::with_capacity(alloc, 1000, 1000, Vec::new(alloc))
             .ok()
             .ok_or("memory")?;
-        assert_eq!(rt; affine_main(alloc, &words, &mut files, &mut out), 0);
+        assert_eq!(rt; run(alloc, &words, &mut files, &mut out), 0);
         let report = report_with(alloc, list, points)?;
         assert_eq!(rt; out.written.as_slice(), report.as_slice());
     }
@@ -111,7 +111,7 @@ const NO_RETURN: &str =
 const PAIR: &str =
     "affine-report 2\ntrack ra\nproc 0x10078\ncert ra never\nat 0x10078\nnone\nat 0x1007c\nrel 1*ra -65656\nat 0x10080\nrel 1*ra -65664\nproc 0x10084\ncert ra granted\nat 0x10084\nrel 1*ra -65664\nend\n";
 
-const FRAME_CODE: [u32; 17] = [
+pub(crate) const FRAME_CODE: [u32; 17] = [
     0x00001117, 0xf8810113, 0x00000097, 0x00c080e7, 0x00100073, 0xfe010113, 0x00813823, 0x00113c23,
     0x00050413, 0x018000ef, 0x00850533, 0x01813083, 0x01013403, 0x02010113, 0x00008067, 0x00251513,
     0x00008067,
@@ -179,7 +179,7 @@ fn certificates_of_code_with_calls(rt: HostRuntime) -> Result<(), Fail> {
         let mut out = MemSink::with_capacity(alloc, 1000, 1000, Vec::new(alloc))
             .ok()
             .ok_or("memory")?;
-        assert_eq!(rt; affine_main(alloc, &words, &mut files, &mut out), 0);
+        assert_eq!(rt; run(alloc, &words, &mut files, &mut out), 0);
         let text = certs_with(alloc, list, procedures)?;
         assert_eq!(rt; out.written.as_slice(), text.as_slice());
     }
@@ -214,7 +214,7 @@ fn reports_of_code_with_calls(rt: HostRuntime) -> Result<(), Fail> {
         let mut out = MemSink::with_capacity(alloc, 2000, 2000, Vec::new(alloc))
             .ok()
             .ok_or("memory")?;
-        assert_eq!(rt; affine_main(alloc, &words, &mut files, &mut out), 0);
+        assert_eq!(rt; run(alloc, &words, &mut files, &mut out), 0);
         assert_eq!(rt; out.written.as_slice(), report.as_bytes());
     }
     Ok(())

@@ -1,9 +1,9 @@
 //! The words of commands, as `clap` reads them.
 
-ghost use Rattle.std.specs.Prelude.{◌≡◌, ◌↔◌, true, false, IfOk, IsTrue};
+ghost use Rattle.std.specs.Prelude.{◌≡◌, ◌↔◌, true, false, option_map, IfOk, IsTrue};
 ghost use Rattle.clap.specs.Words.{app_of, is_simple_and_free, kind_of, rule_of};
-ghost use Rattle.analyser_main.specs.Orders.{bare_command, file_command, track_command, position, option, texts_of};
-ghost use Rattle.analyser_main.specs.OrdersRead.{IsParseOf, value_read};
+ghost use Rattle.analyser_main.specs.Orders.{bare_command, file_command, track_command, report_command, run_command, position, option, optional, texts_of};
+ghost use Rattle.analyser_main.specs.OrdersRead.{IsParseOf, given_read, value_read};
 
 use clap::error::ErrorKind;
 use clap::{Arg, ArgAction, ArgMatches, Command, Error};
@@ -34,6 +34,31 @@ pub fn parse_track<'a>(
     parse(command, words)
 }
 
+/// What the command of this name with FILE and REPORT reads in the words, where it takes them.
+pub fn parse_report<'a>(
+    alloc: Global,
+    name: &'a str,
+    words: &'a [String],
+) -> Result<Option<ArgMatches<'a>>, AllocError>
+    ensures { IfOk result (IsParseOf (report_command name.entry.now) (texts_of words.entry.now)) }
+{
+    let command = report_command(alloc, name)?;
+    parse(command, words)
+}
+
+/// What the command of this name with FILE and REPORT, `--steps` and perhaps `--regs` reads in the words, where it takes
+/// them.
+pub fn parse_run<'a>(
+    alloc: Global,
+    name: &'a str,
+    words: &'a [String],
+) -> Result<Option<ArgMatches<'a>>, AllocError>
+    ensures { IfOk result (IsParseOf (run_command name.entry.now) (texts_of words.entry.now)) }
+{
+    let command = run_command(alloc, name)?;
+    parse(command, words)
+}
+
 fn file_command<'a>(alloc: Global, name: &'a str) -> Result<Command<'a>, AllocError>
     ensures app { IfOk result (λ command. app_of command ≡ file_command name.entry.now) }
     ensures simple { IfOk result (λ command. is_simple_and_free (app_of command) ≡ true) }
@@ -47,6 +72,22 @@ fn track_command<'a>(alloc: Global, name: &'a str, over: &'a str) -> Result<Comm
 {
     let command = bare_command(alloc, name).arg(position(alloc, over))?;
     command.arg(option(alloc, "track"))
+}
+
+fn report_command<'a>(alloc: Global, name: &'a str) -> Result<Command<'a>, AllocError>
+    ensures app { IfOk result (λ command. app_of command ≡ report_command name.entry.now) }
+    ensures simple { IfOk result (λ command. is_simple_and_free (app_of command) ≡ true) }
+{
+    let command = bare_command(alloc, name).arg(position(alloc, "file"))?;
+    command.arg(position(alloc, "report"))
+}
+
+fn run_command<'a>(alloc: Global, name: &'a str) -> Result<Command<'a>, AllocError>
+    ensures app { IfOk result (λ command. app_of command ≡ run_command name.entry.now) }
+    ensures simple { IfOk result (λ command. is_simple_and_free (app_of command) ≡ true) }
+{
+    let command = report_command(alloc, name)?.arg(option(alloc, "steps"))?;
+    command.arg(optional(alloc, "regs"))
 }
 
 fn bare_command<'a>(alloc: Global, name: &'a str) -> Command<'a>
@@ -75,6 +116,13 @@ fn option<'a>(alloc: Global, name: &'a str) -> Arg<'a>
         .long(name)
 }
 
+fn optional<'a>(alloc: Global, name: &'a str) -> Arg<'a>
+    ensures rule { rule_of result ≡ optional name.entry.now }
+    ensures local { result.global ≡ false }
+{
+    Arg::new(alloc, name).action(ArgAction::Set).long(name)
+}
+
 // What the command reads in the words, where it takes them.
 fn parse<'a>(
     command: Command<'a>,
@@ -96,11 +144,18 @@ fn is_memory(error: &Error) -> bool
     matches!(error.kind(), ErrorKind::OutOfMemory)
 }
 
+/// The value of an argument, if it has one.
+pub fn given_value<'a>(matches: &ArgMatches<'a>, name: &str) -> Option<&'a str>
+    ensures { option_map (λ v. v.now) result ≡ given_read matches.now name.now }
+{
+    matches.get_str(name)
+}
+
 /// The value of an argument. A required one has some.
 pub fn value_of<'a>(matches: &ArgMatches<'a>, name: &str) -> &'a str
     ensures { result.now ≡ value_read matches.now name.now }
 {
-    match matches.get_str(name) {
+    match given_value(matches, name) {
         Some(value) => value,
         None => "",
     }

@@ -7,7 +7,9 @@ ghost use Rattle.analyser_main.specs.Orders.{texts_of, order_of, count_of, has_z
 ghost use Rattle.analyser_main.specs.OrdersRead.{order_in};
 
 use crate::Order;
-use crate::command_words::{parse_file, parse_track, value_of};
+use crate::command_words::{
+    given_value, parse_file, parse_report, parse_run, parse_track, value_of,
+};
 use std::alloc::{AllocError, Global};
 
 /// The greatest number in an order.
@@ -20,11 +22,24 @@ pub fn read_order(alloc: Global, words: &[String]) -> Result<Order<'_>, AllocErr
     let [command, words @ ..] = words else {
         return Ok(Order::Usage);
     };
-    match command.as_str() {
+    order_named(alloc, command.as_str(), words)
+}
+
+// The order of a command's name and the words behind it.
+fn order_named<'a>(
+    alloc: Global,
+    command: &str,
+    words: &'a [String],
+) -> Result<Order<'a>, AllocError>
+    ensures { IfOk result (λ order. order_in order ≡ order_of (command.now ∷ texts_of words.now)) }
+{
+    match command {
         "analyse" => analyse_order(alloc, words),
         "cert" => certify_order(alloc, words),
         "list" => list_order(alloc, words),
         "gen" => generate_order(alloc, words),
+        "run" => run_order(alloc, words),
+        "upgrade" => upgrade_order(alloc, words),
         _ => Ok(Order::Usage),
     }
 }
@@ -74,6 +89,35 @@ fn generate_order<'a>(alloc: Global, words: &'a [String]) -> Result<Order<'a>, A
         Some(n) => Order::Generate {
             n,
             list: value_of(&matches, "track"),
+        },
+        None => Order::Usage,
+    })
+}
+
+fn run_order<'a>(alloc: Global, words: &'a [String]) -> Result<Order<'a>, AllocError>
+    ensures { IfOk result (λ order. order_in order ≡ order_of (codes "run" ∷ texts_of words.now)) }
+{
+    let Some(matches) = parse_run(alloc, "run", words)? else {
+        return Ok(Order::Usage);
+    };
+    Ok(match count_of(value_of(&matches, "steps")) {
+        Some(steps) => Order::CheckRun {
+            file: value_of(&matches, "file"),
+            report: value_of(&matches, "report"),
+            steps,
+            regs: given_value(&matches, "regs"),
+        },
+        None => Order::Usage,
+    })
+}
+
+fn upgrade_order<'a>(alloc: Global, words: &'a [String]) -> Result<Order<'a>, AllocError>
+    ensures { IfOk result (λ order. order_in order ≡ order_of (codes "upgrade" ∷ texts_of words.now)) }
+{
+    Ok(match parse_report(alloc, "upgrade", words)? {
+        Some(matches) => Order::Upgrade {
+            file: value_of(&matches, "file"),
+            report: value_of(&matches, "report"),
         },
         None => Order::Usage,
     })

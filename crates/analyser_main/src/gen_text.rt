@@ -5,7 +5,7 @@ ghost use Rattle.flow_points.specs.Walks.{most_points};
 ghost use Rattle.analyser_core.specs.declared.cert_line.CertLine.{CertLine};
 ghost use Rattle.analyser_main.specs.GenText.{count_line, gen_text, is_unreached, rows_told};
 
-use crate::certs_text::procedures_of;
+use analyser_core::procedures_of;
 use number_text::push_dec;
 use report_text::{PointRows, PointState, Report};
 use std::alloc::{AllocError, Global};

@@ -1,16 +1,15 @@
 //! What `list FILE` gets.
 
-ghost use Rattle.std.specs.Prelude.{◌≡◌, ◌≤◌, length, IfOk, MatchResult};
+ghost use Rattle.std.specs.Prelude.{◌≤◌, length, IfOk};
 ghost use Rattle.outside.specs.Counts.{HasRisen};
 ghost use Rattle.analyser_core.specs.Accepted.{most_bytes};
-ghost use Rattle.analyser_main.specs.Answers.{IsListed, IsListing, IsAnswerOver};
-ghost use Rattle.analyser_main.specs.Replies.{AnswersWith, IsListRefusal};
+ghost use Rattle.analyser_main.specs.Answers.{IsListing, IsAnswerOver};
+ghost use Rattle.analyser_main.specs.Replies.{AnswersWith};
 
 use crate::Reply;
+use crate::file_code::{code_of, refused};
 use crate::file_reply::{MOST_BYTES, reply, too_long};
 use crate::points_list::write_list;
-use crate::refusal_lines::refusal_line;
-use analyser_core::{Refusal, image_of, points_of};
 use outside::{Files, ReadError, read_all};
 use std::alloc::{AllocError, Global};
 
@@ -31,23 +30,8 @@ fn listing_over(alloc: Global, bytes: &[u8]) -> Result<(u8, Vec<u8>), AllocError
     requires { length bytes.now ≤ most_bytes }
     ensures { IfOk result (λ answer. IsListing bytes.now answer.0 answer.1.items) }
 {
-    match list_of(alloc, bytes) {
-        Ok(text) => Ok((0, text)),
-        Err(refusal) => Ok((1, refusal_line(alloc, bytes, refusal)?)),
+    match code_of(alloc, bytes) {
+        Ok((_, points)) => Ok((0, write_list(alloc, &points)?)),
+        Err(refusal) => refused(alloc, bytes, refusal),
     }
-}
-
-// The list of the points in the bytes of a file.
-fn list_of(alloc: Global, bytes: &[u8]) -> Result<Vec<u8>, Refusal>
-    ensures { MatchResult result (λ text. IsListed bytes.now text.items) (IsListRefusal bytes.now) }
-{
-    let image = match image_of(alloc, bytes) {
-        Ok(image) => image,
-        Err(refusal) => return Err(refusal),
-    };
-    let points = match points_of(alloc, &image) {
-        Ok(points) => points,
-        Err(refusal) => return Err(refusal),
-    };
-    Ok(write_list(alloc, &points)?)
 }

@@ -3,8 +3,10 @@
 //! `analyse FILE --track LIST` prints, for each instruction of an ELF file that can be reached, rows that
 //! generate all affine relations modulo 2^64 that hold there between 1 to 16 registers and frame slots
 //! and a constant, and which registers each procedure leaves as they were. `cert FILE --track LIST` prints
-//! the latter alone. `list FILE` prints the instructions themselves. `gen N --track LIST` analyses a file
-//! that is made from a number, and prints how much was found. `affine_main` takes the arguments
+//! the latter alone. `list FILE` prints the instructions themselves. `run FILE REPORT --steps N` makes so many
+//! steps of the machine and prints the first at which it breaks what the report says or the discipline of
+//! calls. `gen N --track LIST` analyses a file that is made from a number, and prints how much was found.
+//! `upgrade FILE REPORT` prints a report without certificates with them. `affine_main` takes the arguments
 //! after the program's name, files to read and a sink for the text, and gives the exit status: its
 //! clause says which text the sink gains, and why each status comes. `run_with` ends with that status;
 //! `main` calls it over the system's arguments, files and standard output.
@@ -23,19 +25,26 @@ mod command_words;
 mod commands;
 #[cfg(test)]
 mod compressed_tests;
+mod file_code;
 mod file_reply;
+mod four_watches;
 mod gen_command;
 mod gen_text;
 mod list_command;
 mod names_text;
 mod points_list;
 mod refusal_lines;
+mod report_inputs;
+#[cfg(test)]
+mod report_tests;
+mod run_command;
 #[cfg(test)]
 mod symbol_tests;
 #[cfg(test)]
 mod tests;
 mod top_call;
 mod track_lines;
+mod upgrade_command;
 #[cfg(test)]
 mod words_tests;
 
@@ -48,10 +57,31 @@ use std::{env, io};
 #[derive(Clone, Copy, Debug)]
 pub enum Order<'a> {
     Usage,
-    Analyse { file: &'a str, list: &'a str },
-    Certify { file: &'a str, list: &'a str },
-    ListCode { file: &'a str },
-    Generate { n: u32, list: &'a str },
+    Analyse {
+        file: &'a str,
+        list: &'a str,
+    },
+    Certify {
+        file: &'a str,
+        list: &'a str,
+    },
+    ListCode {
+        file: &'a str,
+    },
+    CheckRun {
+        file: &'a str,
+        report: &'a str,
+        steps: u32,
+        regs: Option<&'a str>,
+    },
+    Generate {
+        n: u32,
+        list: &'a str,
+    },
+    Upgrade {
+        file: &'a str,
+        report: &'a str,
+    },
 }
 
 /// What an order gets: a status with a text, or word of a fault or of want of memory.

@@ -5,7 +5,7 @@ ghost use Rattle.number_text.specs.Numerals.{dec, hex};
 ghost use Rattle.rv_decode.specs.Registers.{name_of_register};
 ghost use Rattle.elf_image.specs.declared.refusal.ElfRefusal.TheVariants.{NoCode};
 ghost use Rattle.flow_points.specs.declared.refusal.FlowRefusal.TheVariants.{NoInstruction};
-ghost use Rattle.analyser_main.specs.Lines.{at_offset, at_address, valued, elf_line, flow_line, refused, too_long_line, IsLineOf};
+ghost use Rattle.analyser_main.specs.Lines.{at_offset, at_address, valued, elf_line, flow_line, refused, too_long_line, report_too_long_line, IsLineOf};
 
 use crate::points_list::push_word;
 use crate::track_lines::track_line;
@@ -34,6 +34,13 @@ pub fn too_long_line(alloc: Global) -> Result<Vec<u8>, AllocError>
     ensures { IfOk result (λ line. line.items ≡ too_long_line) }
 {
     Vec::from_slice(alloc, b"refused TooLong 16777216\n")
+}
+
+/// The line for a report with too many bytes.
+pub fn report_too_long_line(alloc: Global) -> Result<Vec<u8>, AllocError>
+    ensures { IfOk result (λ line. line.items ≡ report_too_long_line) }
+{
+    Vec::from_slice(alloc, b"refused report TooLong 268435456\n")
 }
 
 /// The line of a refusal with one value.

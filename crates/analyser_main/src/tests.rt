@@ -2,7 +2,7 @@
 
 ghost use Rattle.std.specs.Prelude.{◌≢◌, ◌≤◌};
 
-use crate::top_call::{affine_main, run_with};
+use crate::top_call::{run, run_with};
 use outside::{CleanFiles, CleanSink, DiskFiles, Files, MemFile, MemFiles, MemSink, Sink, StdSink};
 use std::alloc::{AllocError, Global};
 use std::io::ErrorKind;
@@ -19,7 +19,7 @@ fn over_clean_files<K: Sink>(
 ) -> u8
     ensures { result ≢ 3 }
 {
-    affine_main(alloc, words, files, out)
+    run(alloc, words, files, out)
 }
 
 /// Over a sink that never fails, no answer is a write fault, whatever the files do.
@@ -31,7 +31,7 @@ fn over_a_clean_sink<F: Files>(
 ) -> u8
     ensures { result ≢ 4 }
 {
-    affine_main(alloc, words, files, out)
+    run(alloc, words, files, out)
 }
 
 // A file with these segments, each by its offset, address and size, and with words behind its headers.
@@ -105,8 +105,8 @@ const REPORT: &str =
 const LIST: &str =
     "affine-list 1\nproc 0x10078\n0x10078 00500513 addi a0,zero,5\n0x1007c 00100073 ebreak\nend\n";
 
-const USAGE: &str =
-    "usage:\nanalyse FILE --track LIST\ncert FILE --track LIST\nlist FILE\ngen N --track LIST\n";
+pub(crate) const USAGE: &str =
+    "usage:\nanalyse FILE --track LIST\ncert FILE --track LIST\nlist FILE\nrun FILE REPORT --steps N [--regs R]\ngen N --track LIST\nupgrade FILE REPORT\n";
 
 pub(crate) const EBREAK: u32 = 0x00100073;
 
@@ -124,7 +124,7 @@ pub(crate) fn answer_to(
     let mut out = MemSink::with_capacity(alloc, 1000, piece, Vec::new(alloc))
         .ok()
         .ok_or("memory")?;
-    let status = affine_main(alloc, &words, &mut files, &mut out);
+    let status = run(alloc, &words, &mut files, &mut out);
     Ok((status, out.written))
 }
 
@@ -311,7 +311,7 @@ fn faults_have_their_status(rt: HostRuntime) -> Result<(), Fail> {
         let mut out = MemSink::with_capacity(alloc, 1000, 10, vec![in alloc; put]?)
             .ok()
             .ok_or("memory")?;
-        assert_eq!(rt; affine_main(alloc, &words, &mut files, &mut out), status);
+        assert_eq!(rt; run(alloc, &words, &mut files, &mut out), status);
         assert_eq!(rt; out.written.as_slice(), text.as_bytes());
     }
     // A file with a byte too many, and no words at all.
@@ -319,7 +319,7 @@ fn faults_have_their_status(rt: HostRuntime) -> Result<(), Fail> {
     let mut out = MemSink::with_capacity(alloc, 1000, 1000, Vec::new(alloc))
         .ok()
         .ok_or("memory")?;
-    assert_eq!(rt; affine_main(alloc, &words, &mut files, &mut out), 1);
+    assert_eq!(rt; run(alloc, &words, &mut files, &mut out), 1);
     assert_eq!(rt;
         out.written.as_slice(),
         b"refused TooLong 16777216\n".as_slice()
@@ -330,11 +330,11 @@ fn faults_have_their_status(rt: HostRuntime) -> Result<(), Fail> {
     };
     assert_eq!(rt; over_clean_files(alloc, &[], &mut none, &mut sink), 2);
     assert_eq!(rt; over_a_clean_sink(alloc, &[], &mut none, &mut sink), 2);
-    assert_eq!(rt; sink.taken, 170);
+    assert_eq!(rt; sink.taken, 284);
     // What can't be had of the arguments: no memory for them, or no text.
     for (kind, status, taken) in [
-        (ErrorKind::OutOfMemory, 5, 184),
-        (ErrorKind::InvalidData, 2, 269),
+        (ErrorKind::OutOfMemory, 5, 298),
+        (ErrorKind::InvalidData, 2, 440),
     ] {
         let words: io::Result<Vec<String>> = Err(io::Error::from(kind));
         let code = run_with(alloc, words, &mut none, &mut sink);
@@ -360,12 +360,9 @@ fn a_file_on_disk_is_analysed(rt: HostRuntime) -> Result<(), Fail> {
     let mut out = MemSink::with_capacity(alloc, 1000, 1000, Vec::new(alloc))
         .ok()
         .ok_or("memory")?;
-    assert_eq!(rt; affine_main(alloc, &words, &mut files, &mut out), 0);
+    assert_eq!(rt; run(alloc, &words, &mut files, &mut out), 0);
     assert_eq!(rt; out.written.as_slice(), REPORT.as_bytes());
-    assert_eq!(rt;
-        affine_main(alloc, &words, &mut files, &mut StdSink::new(&rt)),
-        0
-    );
+    assert_eq!(rt; run(alloc, &words, &mut files, &mut StdSink::new(&rt)), 0);
     fs::remove_file(&rt, name)?;
     Ok(())
 }

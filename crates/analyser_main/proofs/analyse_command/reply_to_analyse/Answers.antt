@@ -1,6 +1,7 @@
 use Rattle.std.proofs.Common.{Err, ap}
 use Rattle.analyser_main.specs.Answers as answers
-use Rattle.analyser_main.specs.Answers.{too_long, report_text, IsAnswer}
+use Rattle.analyser_main.specs.Answers.{report_text, IsAnswer}
+use Rattle.analyser_main.specs.FileRefusals.{too_long}
 use Rattle.analyser_main.proofs.RepliesGiven.{reply_answers}
 use Rattle.analyser_main.proofs.TooLong.{given_too_long}
 use Rattle.analyser_main.proofs.analyse_command.reply_to_analyse.Goals as goal

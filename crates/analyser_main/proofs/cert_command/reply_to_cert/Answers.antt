@@ -1,6 +1,7 @@
 use Rattle.std.proofs.Common.{Err, ap}
 use Rattle.analyser_main.specs.Answers as answers
-use Rattle.analyser_main.specs.Answers.{too_long, IsAnswer}
+use Rattle.analyser_main.specs.Answers.{IsAnswer}
+use Rattle.analyser_main.specs.FileRefusals.{too_long}
 use Rattle.analyser_main.specs.CertsText.{certs_text}
 use Rattle.analyser_main.proofs.RepliesGiven.{reply_answers}
 use Rattle.analyser_main.proofs.TooLong.{given_too_long}

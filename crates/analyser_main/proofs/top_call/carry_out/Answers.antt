@@ -21,3 +21,10 @@ returns-in-ListCode-clause-carried_out g c =
 pub returns-in-Generate-clause-carried_out : goal.returns-in-Generate-clause-carried_out
 returns-in-Generate-clause-carried_out g c =
     rw c.in-Generate.is (reply_ends _ _ _ c.reply_to_gen.result _ c.reply_to_gen.ensures c.say_reply-in-Generate.ensures.said)
+
+pub returns-in-CheckRun-clause-carried_out : goal.returns-in-CheckRun-clause-carried_out
+returns-in-CheckRun-clause-carried_out g c = rw c.in-CheckRun.is c.check_run.ensures.carried_out
+
+pub returns-in-Upgrade-clause-carried_out : goal.returns-in-Upgrade-clause-carried_out
+returns-in-Upgrade-clause-carried_out g c =
+    rw c.in-Upgrade.is (reply_ends _ _ _ c.reply_to_upgrade.result _ c.reply_to_upgrade.ensures c.say_reply-in-Upgrade.ensures.said)

@@ -1,0 +1,16 @@
+use Rattle.analyser_main.specs.ReportAnswers as answers
+use Rattle.analyser_main.specs.ReportAnswers.{IsUnread, IsUpgrade}
+use Rattle.analyser_main.proofs.InputsRead.{both_weaker, reply_weaker}
+use Rattle.analyser_main.proofs.OverBoth.{upgrade_over}
+use Rattle.analyser_main.proofs.RepliesGiven.{reply_answers}
+use Rattle.analyser_main.proofs.upgrade_command.reply_to_upgrade.Goals as goal
+
+pub returns-in-Ok : goal.returns-in-Ok
+returns-in-Ok g c =
+    reply_answers _ _ c.answer_over.result _ c.reply.ensures
+    (upgrade_over _ _ _ _ _ c.answer_over.result c.in-Ok.ensures c.answer_over.ensures)
+
+pub returns-in-Err : goal.returns-in-Err
+returns-in-Err g c =
+    reply_weaker _ _ _ _ c.in-Err.reply
+    (both_weaker _ _ IsUnread IsUpgrade (λ bytes told status text is. answers.IsUpgrade.unread status text is)) (λ rose. rose) c.in-Err.ensures
