@@ -22,7 +22,7 @@ use Rattle.run_verdicts.specs.Changes.{Changes, IsOwnStep}
 use Rattle.run_verdicts.proofs.Stored.{Differ, store_tells}
 
 -- what a machine does itself is no ECALL
-no_ecall : (m : Hart) (at : Fetched) → IsOwnStep m → IsAt m at Ecall → ⊥
+pub no_ecall : (m : Hart) (at : Fetched) → IsOwnStep m → IsAt m at Ecall → ⊥
 no_ecall m at own is =
     elim (cases_eq (x m 17) 93) [
       | inl exit ↦ own (stop.Exit (x m 10)) (exits at is exit refl)

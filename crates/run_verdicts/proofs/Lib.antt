@@ -42,3 +42,14 @@ mod Onto
 mod OnPoints
 mod AtPoints
 mod LeftFor
+mod Alike
+mod OneStop
+mod OneRecord
+mod OneMoment
+mod SameMoment
+mod OneCode
+mod OneTurn
+mod Excluded
+mod NoWay
+mod OneEnd
+mod OneRun

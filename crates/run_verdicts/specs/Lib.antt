@@ -6,3 +6,4 @@ pub mod Whole
 pub mod Relations
 pub mod Environment
 pub mod Points
+pub mod One

@@ -6,6 +6,7 @@ ghost use Rattle.run_verdicts.specs.Points.{RunsEndAtPoints, RunsLeaveForCause};
 ghost use Rattle.run_verdicts.specs.Runs.{QuietRunsKeepDiscipline, StrayReturnsAreFound, VerdictsFindFirstBreaches, WatchedRunsAreRuns};
 ghost use Rattle.run_verdicts.specs.Whole.{RecordsAreCounted, WholeRunsAreRuns};
 ghost use Rattle.run_verdicts.specs.Environment.{QuietEcallsKeepRules};
+ghost use Rattle.run_verdicts.specs.One.{RunsAreOne};
 ghost use Rattle.run_verdicts.specs.Relations.{FailuresAreCaused, NoRelationFailsInQuiet};
 
 /// The bytes that the record of a step tells as changed are exactly those at which memory differs after it, where the
@@ -76,4 +77,9 @@ pub fn runs_end_at_points()
 /// So such a run leaves only where an instruction's word was changed, or by a return that goes elsewhere than to its caller.
 pub fn runs_leave_for_cause()
     ensures { RunsLeaveForCause }
+{}
+
+/// The run of an image from given registers, of at most so many steps, is one: what is seen of it, its steps and its stop.
+pub fn runs_are_one()
+    ensures { RunsAreOne }
 {}
