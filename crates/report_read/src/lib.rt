@@ -20,8 +20,6 @@ mod read;
 mod reduced;
 mod refusal;
 mod steps;
-#[cfg(test)]
-mod tests;
 
 pub use draft::{Draft, Place};
 pub use laws::tellings_are_one;

@@ -1,6 +1,6 @@
 //! Reports of both versions, and changed ones.
 
-use crate::{ReportRefusal, read_report};
+use report_read::{ReportRefusal, read_report};
 use report_text::write_report;
 use std::alloc::{AllocError, Global};
 use std::test::Fail;
@@ -144,17 +144,9 @@ fn are_refused(
     Ok(true)
 }
 
-#[test]
-fn changed_reports(rt: HostRuntime) -> Result<(), Fail> {
-    let alloc = rt.alloc();
-    assert!(rt; are_refused(alloc, FIVE_LINES, &CHANGED_POINTS)?);
-    assert!(rt; are_refused(alloc, THREE_LINES, &CHANGED_CERTIFICATES)?);
-    assert!(rt; are_refused(alloc, "", &OTHER_TEXTS)?);
-    Ok(())
-}
-
 /// Whether each shorter text breaks off in its last line.
-fn is_cut_everywhere(alloc: Global, text: &[u8]) -> bool {
+fn is_cut_everywhere(alloc: Global, text: &str) -> bool {
+    let text = text.as_bytes();
     let mut line = 1u64;
     for at in 0..text.len() {
         if refusal_of(alloc, &text[..at]) != Some(ReportRefusal::Syntax(line)) {
@@ -168,9 +160,9 @@ fn is_cut_everywhere(alloc: Global, text: &[u8]) -> bool {
 }
 
 /// Whether the report is read, and written as it was.
-fn comes_back(alloc: Global, text: &[u8]) -> Result<bool, AllocError> {
-    match read_report(alloc, text) {
-        Ok(report) => Ok(write_report(alloc, &report)?.as_slice() == text),
+fn comes_back(alloc: Global, text: &str) -> Result<bool, AllocError> {
+    match read_report(alloc, text.as_bytes()) {
+        Ok(report) => Ok(write_report(alloc, &report)?.as_slice() == text.as_bytes()),
         Err(_) => Ok(false),
     }
 }
@@ -178,9 +170,16 @@ fn comes_back(alloc: Global, text: &[u8]) -> Result<bool, AllocError> {
 #[test]
 fn reports_of_both_versions(rt: HostRuntime) -> Result<(), Fail> {
     let alloc = rt.alloc();
-    assert!(rt; comes_back(alloc, FIRST_VERSION.as_bytes())?);
-    assert!(rt; comes_back(alloc, SECOND_VERSION.as_bytes())?);
-    assert!(rt; is_cut_everywhere(alloc, FIRST_VERSION.as_bytes()));
-    assert!(rt; is_cut_everywhere(alloc, SECOND_VERSION.as_bytes()));
+    assert!(rt; comes_back(alloc, FIRST_VERSION)? && is_cut_everywhere(alloc, FIRST_VERSION));
+    assert!(rt; comes_back(alloc, SECOND_VERSION)? && is_cut_everywhere(alloc, SECOND_VERSION));
+    Ok(())
+}
+
+#[test]
+fn changed_reports(rt: HostRuntime) -> Result<(), Fail> {
+    let alloc = rt.alloc();
+    assert!(rt; are_refused(alloc, FIVE_LINES, &CHANGED_POINTS)?);
+    assert!(rt; are_refused(alloc, THREE_LINES, &CHANGED_CERTIFICATES)?);
+    assert!(rt; are_refused(alloc, "", &OTHER_TEXTS)?);
     Ok(())
 }

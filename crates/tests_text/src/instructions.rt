@@ -1,11 +1,11 @@
 //! Words and their texts, as an assembler gives them.
 
-use crate::write_instr;
 use rv_decode::{decode, encode};
-use std::alloc::Global;
+use rv_text::write_instr;
+use std::alloc::{AllocError, Global};
 use std::test::Fail;
 
-// The words of small programs.
+/// The words of small programs.
 const PROGRAMS: [(u32, &str); 28] = [
     (0x00000513, "addi a0,zero,0"),
     (0x008000ef, "jal ra,8"),
@@ -37,7 +37,7 @@ const PROGRAMS: [(u32, &str); 28] = [
     (0x0020006f, "jal zero,2"),
 ];
 
-// A word of each row of the table.
+/// A word of each row of the table.
 const ROWS: [(u32, &str); 66] = [
     (0xfffff537, "lui a0,0xfffff"),
     (0x00001117, "auipc sp,0x1"),
@@ -107,13 +107,22 @@ const ROWS: [(u32, &str); 66] = [
     (0x00100073, "ebreak"),
 ];
 
+/// Whether each word of the table means an instruction with this text, which has that word again.
+fn are_written(alloc: Global, table: &[(u32, &str)]) -> Result<bool, AllocError> {
+    for (word, text) in table {
+        let Some(instr) = decode(*word) else {
+            return Ok(false);
+        };
+        if encode(&instr) != *word || write_instr(alloc, &instr)?.as_str() != *text {
+            return Ok(false);
+        }
+    }
+    Ok(true)
+}
+
 #[test]
 fn texts(rt: HostRuntime) -> Result<(), Fail> {
-    for (word, text) in PROGRAMS.iter().chain(ROWS.iter()) {
-        let instr = decode(*word).ok_or("no instruction")?;
-        let written = write_instr(rt.alloc(), &instr)?;
-        assert_eq!(rt; written.as_str(), *text);
-        assert_eq!(rt; encode(&instr), *word);
-    }
+    assert!(rt; are_written(rt.alloc(), &PROGRAMS)?);
+    assert!(rt; are_written(rt.alloc(), &ROWS)?);
     Ok(())
 }
