@@ -13,8 +13,6 @@
 mod cert;
 mod certify;
 pub mod laws;
-#[cfg(test)]
-mod tests;
 
 pub use cert::Cert;
 pub use certify::certificate;

@@ -14,8 +14,6 @@
 
 mod check;
 mod laws;
-#[cfg(test)]
-mod tests;
 
 pub use check::well_formed;
 pub use laws::{

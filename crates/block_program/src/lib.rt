@@ -22,8 +22,6 @@ mod laws;
 mod pushes;
 mod small_edges;
 mod tallies;
-#[cfg(test)]
-mod tests;
 
 ghost use Rattle.std.specs.Prelude.{◌≡◌, ◌<◌, IsSome, Some, length};
 ghost use Rattle.block_program.specs.Numbers.{number_of, edge_number_of};

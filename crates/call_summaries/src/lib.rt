@@ -20,8 +20,6 @@ mod push;
 mod returning;
 mod solve;
 mod take;
-#[cfg(test)]
-mod tests;
 mod worklist;
 
 pub use answers::{Exits, Summaries};

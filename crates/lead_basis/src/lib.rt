@@ -15,16 +15,12 @@
 #![tactic(auto)]
 
 mod annihilator;
-#[cfg(test)]
-mod annihilator_tests;
 mod basis;
 mod meaning;
 mod multiples;
 mod place;
 mod reduce;
 mod steps;
-#[cfg(test)]
-mod tests;
 mod whole;
 
 pub use annihilator::generators_tell_annihilators;

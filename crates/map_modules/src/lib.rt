@@ -16,8 +16,6 @@ mod calls;
 mod kernels;
 mod laws;
 mod matrices;
-#[cfg(test)]
-mod tests;
 
 pub use calls::{extend_call, keeps};
 pub use laws::{

@@ -88,28 +88,3 @@ pub fn dec_is_injective()
 pub fn hex_is_injective()
     ensures { (m n : ℕ) → m < 2 ^ 64 → n < 2 ^ 64 → hex m ≡ hex n → m ≡ n }
 {}
-
-#[cfg(test)]
-mod tests {
-    use super::*;
-    use std::test::Fail;
-
-    #[test]
-    fn numerals(rt: HostRuntime) -> Result<(), Fail> {
-        let mut text = Vec::new(rt.alloc());
-        push_dec(&mut text, 0)?;
-        text.push(b' ')?;
-        push_dec(&mut text, u64::MAX)?;
-        text.push(b' ')?;
-        push_hex(&mut text, 0)?;
-        text.push(b' ')?;
-        push_hex(&mut text, 0x1007c)?;
-        text.push(b' ')?;
-        push_hex8(&mut text, 0x00c0_80e7)?;
-        text.push(b' ')?;
-        push_hex4(&mut text, 0x0c9a)?;
-        let wanted = b"0 18446744073709551615 0x0 0x1007c 00c080e7 0c9a";
-        assert_eq!(rt; text.as_slice(), wanted.as_slice());
-        Ok(())
-    }
-}

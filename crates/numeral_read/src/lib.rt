@@ -97,6 +97,3 @@ fn glyph_of(digit: u64) -> u8
         b'a' + (digit - 10) as u8
     }
 }
-
-#[cfg(test)]
-mod tests;

@@ -24,5 +24,4 @@ mod Turning
 mod Placing
 mod Starting
 mod Bounding
-mod NoReturns
 pub mod Laws

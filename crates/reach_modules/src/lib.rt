@@ -17,8 +17,6 @@ mod made;
 mod places;
 pub mod solve;
 mod start;
-#[cfg(test)]
-mod tests;
 mod worklist;
 
 ghost use Rattle.std.specs.Prelude.{◌≡◌, ◌<◌, length};

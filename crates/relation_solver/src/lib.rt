@@ -13,8 +13,6 @@
 #![tactic(auto)]
 
 pub mod solve;
-#[cfg(test)]
-mod tests;
 
 use lead_basis::Basis;
 pub use solve::relations_follow_states;

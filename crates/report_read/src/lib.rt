@@ -19,8 +19,6 @@ mod laws;
 mod read;
 mod reduced;
 mod steps;
-#[cfg(test)]
-mod tests;
 
 pub use draft::{Draft, Place};
 pub use laws::tellings_are_one;

@@ -15,8 +15,6 @@ mod certs;
 mod names;
 mod points;
 mod reports;
-#[cfg(test)]
-mod tests;
 mod writer;
 
 pub use certs::{CertWord, ReportCert, is_certified};

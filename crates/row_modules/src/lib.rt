@@ -6,7 +6,7 @@
 //! that are 0 outside a set of positions, and `forms` has rows as linear forms. How a module is kept, as a list of rows in echelon form, is left to the crates above.
 //!
 //! ```
-//! combinations_are_a_module::<AllRows>();
+//! combinations_are_a_module::<P>(); // the combinations of rows of a set P are a module
 //! ```
 #![tactic(auto)]
 
@@ -28,32 +28,4 @@ pub trait RowSet {
     ghost use Rattle.std.specs.Prelude.{ℕ, List};
 
     ghost member: { List ℕ → Type 0 };
-}
-
-/// The set of all rows of 17 words.
-pub struct AllRows;
-
-impl RowSet for AllRows {
-    ghost use Rattle.word_rows.specs.Rows.{IsRow};
-
-    ghost member = { λ v. IsRow 17 v };
-}
-
-#[cfg(test)]
-mod tests {
-    use super::*;
-
-    #[test]
-    fn laws_hold_of_one_set() {
-        combinations_are_a_module::<AllRows>();
-        module_is_least::<AllRows, AllRows>();
-        inclusions::<AllRows, AllRows, AllRows>();
-        lists_with_one_more();
-        choices_are_spanned();
-        images_of_modules::<AllRows, AllRows>();
-        products_of_modules::<AllRows, AllRows, AllRows, AllRows>();
-        dot_is_bilinear();
-        zeros_of_forms::<AllRows>();
-        rows_on_positions();
-    }
 }

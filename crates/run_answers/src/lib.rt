@@ -16,8 +16,6 @@
 mod answer;
 mod laws;
 mod lines;
-#[cfg(test)]
-mod tests;
 
 pub use answer::run_answer;
 pub use laws::{files_reports_are_known, known_reports_are_checked};

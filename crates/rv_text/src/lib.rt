@@ -12,6 +12,3 @@ mod mnemonics;
 mod writer;
 
 pub use writer::write_instr;
-
-#[cfg(test)]
-mod tests;

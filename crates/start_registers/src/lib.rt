@@ -12,8 +12,6 @@
 
 mod item;
 mod list;
-#[cfg(test)]
-mod tests;
 mod word;
 
 pub use list::read_registers;

@@ -9,8 +9,6 @@
 //! ```
 #![tactic(auto)]
 
-#[cfg(test)]
-mod tests;
 mod writer;
 
 pub use writer::{has_found, write_verdict};

@@ -16,8 +16,6 @@ mod lanes;
 mod masks;
 mod rows;
 mod slices;
-#[cfg(test)]
-mod tests;
 mod words;
 
 pub use rows::Row;

@@ -1,4 +1,0 @@
-use Rattle.lead_basis.proofs.tests.a_row_with_an_even_pivot.Given as goal
-
-abbrev pub ghosts-pairs : goal.ghosts-pairs
-ghosts-pairs g a = record { name = a.blank.name; parts = a.blank.parts }

@@ -1,0 +1,125 @@
+//! States that reach the nodes of small programs, worked out by hand: a loop, and a procedure with a slot that calls itself.
+
+ghost use Rattle.std.specs.Prelude.{◌≡◌, ◌<◌, length};
+
+use crate::small_programs::{Plan, Put, Step, Words, program, row};
+use affine_prog::well_formed;
+use call_summaries::exits;
+use lead_basis::{Memory, Steps};
+use reach_modules::Reach;
+use reach_modules::solve::reach_by_exits;
+use std::alloc::Global;
+use std::marker::Brand;
+use std::sync::ledger::{Blank, Ledger};
+
+/// a0 := 0, and then a0 := a0 + 8 for ever.
+const LOOP: Plan = Plan {
+    width: 1,
+    registers: 1,
+    procs: &[(0, 2, 0)],
+    nodes: 3,
+    owners: &[0; 3],
+    steps: &[
+        Step::Goes(0, 1, &[Put::Words(0, [0, 0, 0])]),
+        Step::Goes(1, 1, &[Put::Words(0, [1, 0, 8])]),
+    ],
+    start: 0,
+};
+
+/// Procedure 0 calls procedure 1 with a0 = 0, which puts a0 in its slot and calls itself with a0 + 8.
+const RECURSION: Plan = Plan {
+    width: 2,
+    registers: 0b01,
+    procs: &[(0, 2, 0), (3, 6, 0b10)],
+    nodes: 7,
+    owners: &[0, 0, 0, 1, 1, 1, 1],
+    steps: &[
+        Step::Calls(0, 1, &[Put::Words(0, [0, 0, 0])], 1),
+        Step::Goes(3, 4, &[Put::Words(1, [1, 0, 0])]),
+        Step::Calls(4, 5, &[Put::Words(0, [1, 0, 8])], 1),
+    ],
+    start: 0,
+};
+
+/// A node, rows that are in its module, and others that aren't.
+type Case = (u32, &'static [Words], &'static [Words]);
+
+const LOOP_BY_8: [Case; 3] = [
+    (0, &[[1, 0, 0], [5, 0, 1]], &[[0, 1, 0]]),
+    (
+        1,
+        &[[0, 0, 1], [8, 0, 1], [16, 0, 2]],
+        &[[4, 0, 1], [1, 0, 0]],
+    ),
+    (2, &[[0, 0, 0]], &[[0, 0, 1]]),
+];
+
+const RECURSION_BY_8: [Case; 3] = [
+    (
+        3,
+        &[[0, 0, 1], [8, 0, 1], [0, 1, 0]],
+        &[[4, 0, 1], [1, 0, 0]],
+    ),
+    (
+        4,
+        &[[0, 0, 1], [8, 8, 0]],
+        &[[8, 0, 0], [4, 4, 0], [0, 1, 0]],
+    ),
+    (5, &[], &[[0, 0, 1]]),
+];
+
+/// Whether each of the rows is in the module of a node, or whether none is.
+fn are_members(reached: &Reach, node: u32, rows: &[Words], inside: bool) -> bool
+    requires { node < length reached.now }
+{
+    for words in rows {
+        if reached.at(node).member(&row(*words)) != inside {
+            return false;
+        }
+    }
+    true
+}
+
+/// Whether the nodes' modules are as the table says.
+fn are_divided(reached: &Reach, nodes: u32, table: &[Case]) -> bool
+    requires { length reached.now ≡ nodes }
+{
+    for (node, rows, others) in table {
+        if *node >= nodes
+            || !are_members(reached, *node, rows, true)
+            || !are_members(reached, *node, others, false)
+        {
+            return false;
+        }
+    }
+    true
+}
+
+fn reaches<L: Ledger>(
+    alloc: Global,
+    plan: &Plan,
+    table: &[Case],
+    blank: Blank,
+) -> Result<bool, Memory>
+    requires name { blank.name ≡ L.name }
+    requires parts { blank.parts ≡ L.parts }
+    requires some { 0 < blank.parts }
+{
+    let Ok(program) = program(alloc, plan) else {
+        return Err(Memory);
+    };
+    if !well_formed(&program) {
+        return Ok(false);
+    }
+    let mut steps = Steps::<L>::new(blank);
+    let exits = exits(alloc, &program, &mut steps)?;
+    let reached = reach_by_exits(alloc, &program, exits.bases(), &mut steps)?;
+    Ok(are_divided(&reached, program.nodes, table))
+}
+
+#[test]
+fn states_that_reach_nodes(rt: HostRuntime) {
+    let alloc = rt.alloc();
+    assert!(rt; reaches::<Brand>(alloc, &LOOP, &LOOP_BY_8, Blank::new(1)) == Ok(true));
+    assert!(rt; reaches::<Brand>(alloc, &RECURSION, &RECURSION_BY_8, Blank::new(1)) == Ok(true));
+}

@@ -1,0 +1,167 @@
+//! Summaries of small programs, worked out by hand.
+
+ghost use Rattle.std.specs.Prelude.{◌≡◌, ◌<◌};
+
+use crate::small_programs::{LOOP, MapWords, Plan, Put, RECURSION, Step, Words, map, program};
+use affine_prog::well_formed;
+use call_summaries::{exits, summaries};
+use lead_basis::{Memory, Steps};
+use map_modules::MatBasis;
+use std::alloc::Global;
+use std::marker::Brand;
+use std::sync::ledger::{Blank, Ledger};
+
+/// Procedure 0 adds 8 or calls procedure 1, which adds 1 and calls procedure 0, and doesn't use its slot.
+/// Each returns only after the other.
+const MUTUAL: Plan = Plan {
+    steps: &[
+        Step::Calls(0, 1, &[], 1),
+        Step::Goes(0, 1, &[Put::Words(0, [1, 0, 8])]),
+        Step::Calls(2, 5, &[Put::Words(0, [1, 0, 1])], 0),
+    ],
+    ..RECURSION
+};
+
+/// Procedure 0 calls procedure 1, which never returns.
+const ENDLESS: Plan = Plan {
+    steps: &[
+        Step::Calls(0, 1, &[], 1),
+        Step::Goes(2, 3, &[Put::Any(0)]),
+        Step::Goes(3, 2, &[]),
+    ],
+    ..RECURSION
+};
+
+const NONE: Words = [0, 0, 0];
+
+const SAME: Words = [1, 0, 0];
+
+const OPENED: MapWords = (SAME, NONE, 1);
+
+const KEPT: MapWords = (SAME, SAME, 1);
+
+const CONSTANT: MapWords = (NONE, NONE, 1);
+
+const EIGHT: MapWords = ([0, 0, 8], NONE, 0);
+
+const UNIT: MapWords = ([0, 0, 1], NONE, 0);
+
+const SLOT: MapWords = (NONE, [0, 0, 1], 0);
+
+/// The number of a node or of a procedure, and the rows of the reduced basis there.
+type Case = (usize, &'static [MapWords]);
+
+const LOOP_LEVELS: [Case; 3] = [(0, &[OPENED]), (1, &[EIGHT, CONSTANT]), (4, &[])];
+
+const RECURSION_LEVELS: [Case; 4] = [
+    (2, &[OPENED, SLOT]),
+    (4, &[KEPT, EIGHT]),
+    (5, &[KEPT]),
+    (1, &[OPENED]),
+];
+
+const MUTUAL_EXITS: [Case; 2] = [(0, &[OPENED, UNIT]), (1, &[OPENED, UNIT, SLOT])];
+
+const ENDLESS_EXITS: [Case; 2] = [(0, &[]), (1, &[])];
+
+/// Whether these are the rows.
+fn has_rows(basis: &MatBasis, expected: &[MapWords]) -> bool {
+    let rows = basis.rows();
+    if rows.len() != expected.len() {
+        return false;
+    }
+    for (row, words) in rows.iter().zip(expected) {
+        if *row != map(*words) {
+            return false;
+        }
+    }
+    true
+}
+
+/// Whether the reduced basis of a module has these rows.
+fn is_reduced<L: Ledger>(
+    alloc: Global,
+    basis: &MatBasis,
+    rows: &[MapWords],
+    steps: &mut Steps<L>,
+) -> Result<bool, Memory> {
+    let mut copy = MatBasis::new(alloc);
+    for row in basis.rows() {
+        copy.insert(*row, steps)?;
+    }
+    Ok(has_rows(&copy.reduced(), rows))
+}
+
+/// Whether the modules of these bases are those of the table.
+fn are_spanned<L: Ledger>(
+    alloc: Global,
+    bases: &[MatBasis],
+    table: &[Case],
+    steps: &mut Steps<L>,
+) -> Result<bool, Memory> {
+    for (at, rows) in table {
+        match bases.get(*at) {
+            Some(basis) if is_reduced(alloc, basis, rows, steps)? => {}
+            _ => return Ok(false),
+        }
+    }
+    Ok(true)
+}
+
+fn has_levels<L: Ledger>(
+    alloc: Global,
+    plan: &Plan,
+    table: &[Case],
+    blank: Blank,
+) -> Result<bool, Memory>
+    requires name { blank.name ≡ L.name }
+    requires parts { blank.parts ≡ L.parts }
+    requires some { 0 < blank.parts }
+{
+    let Ok(program) = program(alloc, plan) else {
+        return Err(Memory);
+    };
+    if !well_formed(&program) {
+        return Ok(false);
+    }
+    let mut steps = Steps::<L>::new(blank);
+    let summaries = summaries(alloc, &program, &mut steps)?;
+    are_spanned(alloc, summaries.levels(), table, &mut steps)
+}
+
+fn has_exits<L: Ledger>(
+    alloc: Global,
+    plan: &Plan,
+    table: &[Case],
+    blank: Blank,
+) -> Result<bool, Memory>
+    requires name { blank.name ≡ L.name }
+    requires parts { blank.parts ≡ L.parts }
+    requires some { 0 < blank.parts }
+{
+    let Ok(program) = program(alloc, plan) else {
+        return Err(Memory);
+    };
+    if !well_formed(&program) {
+        return Ok(false);
+    }
+    let mut steps = Steps::<L>::new(blank);
+    let exits = exits(alloc, &program, &mut steps)?;
+    are_spanned(alloc, exits.bases(), table, &mut steps)
+}
+
+#[test]
+fn levels_by_hand(rt: HostRuntime) {
+    let alloc = rt.alloc();
+    assert!(rt; has_levels::<Brand>(alloc, &LOOP, &LOOP_LEVELS, Blank::new(1)) == Ok(true));
+    assert!(rt;
+        has_levels::<Brand>(alloc, &RECURSION, &RECURSION_LEVELS, Blank::new(1)) == Ok(true)
+    );
+}
+
+#[test]
+fn exits_by_hand(rt: HostRuntime) {
+    let alloc = rt.alloc();
+    assert!(rt; has_exits::<Brand>(alloc, &MUTUAL, &MUTUAL_EXITS, Blank::new(1)) == Ok(true));
+    assert!(rt; has_exits::<Brand>(alloc, &ENDLESS, &ENDLESS_EXITS, Blank::new(1)) == Ok(true));
+}
