@@ -12,18 +12,19 @@ STEPS = 1000
 REGS =
 export REPORT STEPS REGS
 
-.PHONY: help demo analyse cert list run upgrade build test bench
+.PHONY: help demo analyse cert list run upgrade build test bench edits
 
 help:
-	@echo 'make demo                       the report of $(EXAMPLE)    under a minute'
-	@echo 'make analyse FILE=F TRACK=LIST  the report of F for the names of LIST          under a minute for small files'
-	@echo 'make cert FILE=F TRACK=LIST     which registers its procedures give back        under a minute for small files'
-	@echo 'make list FILE=F                the code of F that can be reached              under a minute for small files'
-	@echo 'make run FILE=F REPORT=R STEPS=N REGS=..  a run of F against the report R, with these registers      under a minute for small files'
-	@echo 'make upgrade FILE=F REPORT=R    the report R with certificates                 under a minute for small files'
+	@echo 'make demo                       the report of $(EXAMPLE)    1 to 2 minutes, mostly compiling'
+	@echo 'make analyse FILE=F TRACK=LIST  the report of F for the names of LIST          1 to 2 minutes, mostly compiling'
+	@echo 'make cert FILE=F TRACK=LIST     which registers its procedures give back        1 to 2 minutes, mostly compiling'
+	@echo 'make list FILE=F                the code of F that can be reached              1 to 2 minutes, mostly compiling'
+	@echo 'make run FILE=F REPORT=R STEPS=N REGS=..  a run of F against the report R, with these registers      1 to 2 minutes, mostly compiling'
+	@echo 'make upgrade FILE=F REPORT=R    the report R with certificates                 1 to 2 minutes, mostly compiling'
 	@echo 'make build                      proves and builds the program                  half an hour or more where nothing is kept'
 	@echo 'make bench                      times of the built program on files of growing size   some seconds'
 	@echo 'make test                       the whole test, rt ci                          an hour or more where nothing is kept'
+	@echo 'make edits                      further wrong bodies, each of which the proof must refuse     half an hour or more'
 	@echo
 	@echo 'demo, analyse, cert, list, run and upgrade build anew and prove nothing; rt ci proves the same sources.'
 	@echo 'make build leaves the program at $(PROGRAM); run it as'
@@ -70,3 +71,6 @@ bench:
 
 test:
 	rt ci
+
+edits:
+	more-edits/try
