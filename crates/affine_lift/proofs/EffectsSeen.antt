@@ -13,16 +13,16 @@ use Rattle.affine_prog.specs.Programs.{IsAssignIn}
 use Rattle.affine_prog.specs.declared.Assign.{Assign}
 use Rattle.affine_prog.specs.declared.Assign.TheVariants.{Affine, Any}
 use Rattle.flow_points.specs.declared.code_points.CodePoint.{CodePoint}
-use Rattle.rv_decode.specs.declared.instructions.Instr.{Instr}
-use Rattle.rv_decode.specs.declared.instructions.Instr.TheVariants.{Lui, Auipc, Jal, Jalr, Branch, Load, Store, Imm, Shift, Reg, Fence, Ecall, Ebreak}
-use Rattle.rv_decode.specs.declared.instructions.LoadOp.{LoadOp}
-use Rattle.rv_decode.specs.declared.instructions.LoadOp.TheVariants.{Lb, Lh, Lw, Ld, Lbu, Lhu, Lwu}
-use Rattle.rv_decode.specs.declared.instructions.ImmOp.{ImmOp}
-use Rattle.rv_decode.specs.declared.instructions.ImmOp.TheVariants.{Addi, Xori}
-use Rattle.rv_decode.specs.declared.instructions.ShiftOp.{ShiftOp}
-use Rattle.rv_decode.specs.declared.instructions.ShiftOp.TheVariants.{Slli}
-use Rattle.rv_decode.specs.declared.instructions.RegOp.{RegOp}
-use Rattle.rv_decode.specs.declared.instructions.RegOp.TheVariants.{Add, Sub, Or, Xor, And, Mul}
+use Rattle.rv_instr.specs.declared.Instr.{Instr}
+use Rattle.rv_instr.specs.declared.Instr.TheVariants.{Lui, Auipc, Jal, Jalr, Branch, Load, Store, Imm, Shift, Reg, Fence, Ecall, Ebreak}
+use Rattle.rv_instr.specs.declared.LoadOp.{LoadOp}
+use Rattle.rv_instr.specs.declared.LoadOp.TheVariants.{Lb, Lh, Lw, Ld, Lbu, Lhu, Lwu}
+use Rattle.rv_instr.specs.declared.ImmOp.{ImmOp}
+use Rattle.rv_instr.specs.declared.ImmOp.TheVariants.{Addi, Xori}
+use Rattle.rv_instr.specs.declared.ShiftOp.{ShiftOp}
+use Rattle.rv_instr.specs.declared.ShiftOp.TheVariants.{Slli}
+use Rattle.rv_instr.specs.declared.RegOp.{RegOp}
+use Rattle.rv_instr.specs.declared.RegOp.TheVariants.{Add, Sub, Or, Xor, And, Mul}
 use Rattle.flow_points.specs.declared.code_points.Flow.{Flow}
 use Rattle.flow_points.specs.declared.code_points.Flow.TheVariants.{Call}
 use Rattle.report_text.specs.declared.names.Name.{Name}

@@ -7,7 +7,7 @@ use Rattle.std.proofs.lemmas.List.Elements.{All-push}
 use Rattle.std.proofs.lemmas.List.Quantifiers.{all_pairs_push}
 use Rattle.report_text.specs.declared.names.Name.{Name}
 use Rattle.affine_lift.specs.Tracking.{texts_of, AreNames, Breaks, IsFurther, IsIn, IsItemRefusal, Names, Scope}
-use Rattle.affine_lift.specs.declared.refusal.TrackRefusal.{TrackRefusal}
+use Rattle.refusals.specs.declared.track.TrackRefusal.{TrackRefusal}
 
 text_at : (items : List (Bor (List ℕ))) (i : ℕ) (d : Bor (List ℕ)) → i < length items → get_or (texts_of items) i [] ≡ (get_or items i d).now
 text_at items i d below = get_or-map (λ item. item.now) items i d [] below

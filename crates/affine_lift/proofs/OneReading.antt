@@ -7,8 +7,8 @@ use Rattle.std.proofs.Math.Seq.{get_or-append_seam}
 use Rattle.elf_image.specs.declared.symbol.Symbol.{Symbol}
 use Rattle.report_text.specs.declared.names.Name.{Name}
 use Rattle.report_text.specs.declared.names.Name.TheVariants.{Slot}
-use Rattle.affine_lift.specs.declared.refusal.TrackRefusal.{TrackRefusal}
-use Rattle.affine_lift.specs.declared.refusal.TrackRefusal.TheVariants.{Memory}
+use Rattle.refusals.specs.declared.track.TrackRefusal.{TrackRefusal}
+use Rattle.refusals.specs.declared.track.TrackRefusal.TheVariants.{Memory}
 use Rattle.affine_lift.specs.Tracking.{HasName, IsAddress, IsDistance, IsIn, IsPlace, IsTracked, IsTrackRefusal, Names, Breaks, Scope, items_of, address, bad_item, bad_slot, by_place, by_register, empty, memory, no_such_procedure, register, repeated, slot, symbol, too_many, unknown_name}
 
 same_digits : (a b : ℕ) (xs ys : List ℕ) → a ∷ xs ≡ b ∷ ys → xs ≡ ys

@@ -15,8 +15,8 @@ use Rattle.affine_prog.specs.declared.Assign.{Assign}
 use Rattle.flow_points.specs.declared.code_points.CodePoint.{CodePoint}
 use Rattle.frame_offsets.specs.Frames.{IsOffset}
 use Rattle.report_text.specs.declared.names.Name.{Name}
-use Rattle.rv_decode.specs.declared.instructions.Instr.{Instr}
-use Rattle.rv_decode.specs.declared.instructions.Instr.TheVariants.{Lui, Auipc, Jal, Jalr, Branch, Load, Store, Imm, Shift, Reg, Fence, Ecall, Ebreak}
+use Rattle.rv_instr.specs.declared.Instr.{Instr}
+use Rattle.rv_instr.specs.declared.Instr.TheVariants.{Lui, Auipc, Jal, Jalr, Branch, Load, Store, Imm, Shift, Reg, Fence, Ecall, Ebreak}
 use Rattle.affine_lift.specs.declared.value.Value.{Value}
 use Rattle.affine_lift.specs.declared.value.Value.TheVariants.{Unknown}
 use Rattle.affine_lift.specs.declared.store.FrameStore.{FrameStore}

@@ -40,8 +40,8 @@ use Rattle.rv_decode.specs.Registers.{register_of}
 use Rattle.report_text.specs.Names.{IsAllowedBelow}
 use Rattle.report_text.specs.declared.names.Name.{Name}
 use Rattle.report_text.specs.declared.names.Name.TheVariants.{Register, Slot}
-use Rattle.affine_lift.specs.declared.refusal.TrackRefusal.{TrackRefusal}
-use Rattle.affine_lift.specs.declared.refusal.TrackRefusal.TheVariants.{Empty, TooMany, UnknownName, BadSlot, NoSuchProcedure, Repeated, Memory}
+use Rattle.refusals.specs.declared.track.TrackRefusal.{TrackRefusal}
+use Rattle.refusals.specs.declared.track.TrackRefusal.TheVariants.{Empty, TooMany, UnknownName, BadSlot, NoSuchProcedure, Repeated, Memory}
 
 abbrev pub is_comma : ℕ → Bool
 is_comma c = c == 44

@@ -35,12 +35,12 @@ use Rattle.report_text.specs.declared.names.Name.TheVariants.{Register, Slot}
 use Rattle.affine_lift.specs.declared.value.Term.{Term}
 use Rattle.affine_lift.specs.declared.value.Value.{Value}
 use Rattle.affine_lift.specs.declared.value.Value.TheVariants.{Linear, Held, Unknown}
-use Rattle.rv_decode.specs.declared.instructions.ImmOp.{ImmOp}
-use Rattle.rv_decode.specs.declared.instructions.ImmOp.TheVariants.{Addi, Xori}
-use Rattle.rv_decode.specs.declared.instructions.ShiftOp.{ShiftOp}
-use Rattle.rv_decode.specs.declared.instructions.ShiftOp.TheVariants.{Slli}
-use Rattle.rv_decode.specs.declared.instructions.RegOp.{RegOp}
-use Rattle.rv_decode.specs.declared.instructions.RegOp.TheVariants.{Add, Sub, Or, Xor, And, Mul}
+use Rattle.rv_instr.specs.declared.ImmOp.{ImmOp}
+use Rattle.rv_instr.specs.declared.ImmOp.TheVariants.{Addi, Xori}
+use Rattle.rv_instr.specs.declared.ShiftOp.{ShiftOp}
+use Rattle.rv_instr.specs.declared.ShiftOp.TheVariants.{Slli}
+use Rattle.rv_instr.specs.declared.RegOp.{RegOp}
+use Rattle.rv_instr.specs.declared.RegOp.TheVariants.{Add, Sub, Or, Xor, And, Mul}
 
 abbrev pub term : ℕ → ℕ → Term
 term factor r = record { factor = factor; register = r }

@@ -10,8 +10,8 @@ ghost use Rattle.report_text.specs.Names.{IsSeenAt};
 ghost use Rattle.report_text.specs.declared.names.Name.{Name};
 ghost use Rattle.affine_lift.specs.Lifting.{IsLifted};
 ghost use Rattle.affine_lift.specs.Tracking.{IsTracked, IsTrackRefusal, Scope};
-ghost use Rattle.affine_lift.specs.declared.refusal.TrackRefusal.{TrackRefusal};
-ghost use Rattle.affine_lift.specs.declared.refusal.TrackRefusal.TheVariants.{Memory};
+ghost use Rattle.refusals.specs.declared.track.TrackRefusal.{TrackRefusal};
+ghost use Rattle.refusals.specs.declared.track.TrackRefusal.TheVariants.{Memory};
 
 /// What is visible at the node of a point are the positions of the names that are seen in the point's procedure.
 pub fn visible_names_are_seen()

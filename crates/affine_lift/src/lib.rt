@@ -21,7 +21,6 @@ mod laws;
 mod names;
 mod positions;
 mod program;
-mod refusal;
 mod registers;
 mod store;
 #[cfg(test)]
@@ -31,6 +30,6 @@ mod value;
 pub use laws::{lists_are_read_in_one_way, programs_are_one, visible_names_are_seen};
 pub use names::read_tracked;
 pub use program::{lift, slot_writes};
-pub use refusal::TrackRefusal;
+pub use refusals::TrackRefusal;
 pub use store::FrameStore;
 pub use value::{Term, Value};

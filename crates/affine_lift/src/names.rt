@@ -10,9 +10,9 @@ ghost use Rattle.report_text.specs.Names.{IsAllowedBelow, IsName};
 ghost use Rattle.report_text.specs.declared.names.Name.{Name};
 ghost use Rattle.affine_lift.specs.Tracking.{is_colon, items_of, HasColon, texts_of, AreNames, Breaks, HasName, IsAddress, IsDistance, IsFurther, IsIn, IsNamesRefusal, IsPlace, IsSlotText, IsTracked, IsTrackRefusal, Names, scope_of, value_of};
 
-use crate::refusal::TrackRefusal;
 use elf_image::{Image, Symbol};
 use flow_points::Points;
+use refusals::TrackRefusal;
 use report_text::{Name, Tracked};
 use rv_decode::read_register;
 use sqlite_items::Items;

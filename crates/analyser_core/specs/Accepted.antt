@@ -17,9 +17,9 @@ use Rattle.elf_image.specs.Refusals.{refusal_of}
 use Rattle.elf_image.specs.declared.image.Image.{Image}
 use Rattle.flow_points.specs.Refusals.{IsFlowRefusal}
 use Rattle.flow_points.specs.PointLists.{FlowPoints, ArePointsOf}
-use Rattle.flow_points.specs.declared.refusal.FlowRefusal.{FlowRefusal}
+use Rattle.refusals.specs.declared.flow.FlowRefusal.{FlowRefusal}
 use Rattle.report_text.specs.declared.names.Name.{Name}
-use Rattle.affine_lift.specs.declared.refusal.TrackRefusal as tracks
+use Rattle.refusals.specs.declared.track.TrackRefusal as tracks
 use Rattle.affine_prog.specs.declared.Program.{Program}
 use Rattle.affine_lift.specs.Lifting.{IsLifted}
 use Rattle.affine_lift.specs.Tracking.{IsTracked, IsTrackRefusal, scope_of}

@@ -1,7 +1,7 @@
 //! Which files and lists are accepted.
 
 ghost use Rattle.std.specs.Prelude.{◌≡◌, ◌↔◌, IsTrue, MatchResult};
-ghost use Rattle.affine_lift.specs.declared.refusal.TrackRefusal as TrackRefusal;
+ghost use Rattle.refusals.specs.declared.track.TrackRefusal as TrackRefusal;
 ghost use Rattle.analyser_core.specs.Accepted.{IsImageOf, HasPoints, IsAcceptedAs, IsFileRefusal, IsCodeRefusal, IsRefusal};
 
 use crate::Refusal;

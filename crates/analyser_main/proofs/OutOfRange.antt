@@ -1,8 +1,8 @@
 -- The answer to a number that is out of range.
 use Rattle.std.proofs.Common.{◌≡◌, ℕ, List, refl, ap, subst, ◌∙◌}
 use Rattle.gen_elf.specs.Generated.{IsGenRefusal}
-use Rattle.gen_elf.specs.declared.refusal.GenRefusal.{GenRefusal}
-use Rattle.gen_elf.specs.declared.refusal.GenRefusal.TheVariants.{Range}
+use Rattle.refusals.specs.declared.generated.GenRefusal.{GenRefusal}
+use Rattle.refusals.specs.declared.generated.GenRefusal.TheVariants.{Range}
 use Rattle.analyser_main.specs.Lines.{range_line}
 use Rattle.analyser_main.specs.Answers.{IsGenAnswer, out_of_range}
 

@@ -38,8 +38,8 @@ use Rattle.elf_image.specs.declared.image.Image.{Image}
 use Rattle.flow_points.specs.PointLists.{FlowPoints}
 use Rattle.gen_elf.specs.Generated.{IsGenerated, IsOutOfRange}
 use Rattle.affine_lift.specs.Tracking.{IsTrackRefusal, scope_of}
-use Rattle.affine_lift.specs.declared.refusal.TrackRefusal as tracks
-use Rattle.affine_lift.specs.declared.refusal.TrackRefusal.{TrackRefusal}
+use Rattle.refusals.specs.declared.track.TrackRefusal as tracks
+use Rattle.refusals.specs.declared.track.TrackRefusal.{TrackRefusal}
 use Rattle.report_text.specs.declared.reports.Report.{Report}
 use Rattle.report_text.specs.Text.{nl, text_of}
 use Rattle.analyser_core.specs.Heads.{most_heads}

@@ -5,12 +5,12 @@
 --   IsCode bytes image points         the bytes are accepted, and this is their image, and these are its points
 use Rattle.std.specs.Prelude.{◌≡◌, ℕ, ◌<◌, ◌≤◌, List, Some, length}
 use Rattle.elf_image.specs.declared.image.Image.{Image}
-use Rattle.elf_image.specs.declared.refusal.ElfRefusal.{ElfRefusal}
+use Rattle.refusals.specs.declared.elf.ElfRefusal.{ElfRefusal}
 use Rattle.elf_image.specs.Fields.{unit_of}
 use Rattle.elf_image.specs.Refusals.{refusal_of}
 use Rattle.flow_points.specs.Refusals.{IsFlowRefusal}
 use Rattle.flow_points.specs.PointLists.{FlowPoints}
-use Rattle.flow_points.specs.declared.refusal.FlowRefusal.{FlowRefusal}
+use Rattle.refusals.specs.declared.flow.FlowRefusal.{FlowRefusal}
 use Rattle.analyser_core.specs.Accepted.{most_bytes, IsImageOf, HasPoints}
 use Rattle.analyser_main.specs.Lines.{elf_line, flow_line, too_long_line}
 

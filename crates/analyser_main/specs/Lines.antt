@@ -22,21 +22,21 @@ use Rattle.rv_decode.specs.Registers.{name_of_register}
 use Rattle.report_text.specs.Text.{nl}
 use Rattle.elf_image.specs.Fields.{unit_of}
 use Rattle.elf_image.specs.Fetches.{fetch_length}
-use Rattle.elf_image.specs.declared.refusal.ElfRefusal.{ElfRefusal}
-use Rattle.elf_image.specs.declared.refusal.ElfRefusal.TheVariants.{Short, NotElf, NotClass64, NotLittle, NotExec, NotRiscv, Rve, BadHeaderTable, Dynamic, BadSegment, TooManySegments, Overlap, NoCode, Memory}
-use Rattle.flow_points.specs.declared.refusal.FlowRefusal as flows
-use Rattle.flow_points.specs.declared.refusal.FlowRefusal.{FlowRefusal}
-use Rattle.flow_points.specs.declared.refusal.FlowRefusal.TheVariants.{TooManyPoints, OutsideCode, NoInstruction, OddLink, IndirectJump, MisalignedTarget, IntoPair}
+use Rattle.refusals.specs.declared.elf.ElfRefusal.{ElfRefusal}
+use Rattle.refusals.specs.declared.elf.ElfRefusal.TheVariants.{Short, NotElf, NotClass64, NotLittle, NotExec, NotRiscv, Rve, BadHeaderTable, Dynamic, BadSegment, TooManySegments, Overlap, NoCode, Memory}
+use Rattle.refusals.specs.declared.flow.FlowRefusal as flows
+use Rattle.refusals.specs.declared.flow.FlowRefusal.{FlowRefusal}
+use Rattle.refusals.specs.declared.flow.FlowRefusal.TheVariants.{TooManyPoints, OutsideCode, NoInstruction, OddLink, IndirectJump, MisalignedTarget, IntoPair}
 use Rattle.analyser_core.specs.declared.refusal.Refusal as refusals
 use Rattle.analyser_core.specs.declared.refusal.Refusal.{Refusal}
 use Rattle.analyser_core.specs.declared.upgrades.UpgradeRefusal as upgrades
 use Rattle.analyser_core.specs.declared.upgrades.UpgradeRefusal.{UpgradeRefusal}
 use Rattle.analyser_core.specs.declared.upgrades.UpgradeRefusal.TheVariants.{AlreadyNew, NotAPoint}
 use Rattle.run_answers.specs.Lines.{stranger_line}
-use Rattle.affine_lift.specs.declared.refusal.TrackRefusal.{TrackRefusal}
+use Rattle.refusals.specs.declared.track.TrackRefusal.{TrackRefusal}
 use Rattle.analyser_main.specs.PointsList.{word_text}
-use Rattle.affine_lift.specs.declared.refusal.TrackRefusal as tracks
-use Rattle.affine_lift.specs.declared.refusal.TrackRefusal.TheVariants.{Empty, TooMany, UnknownName, BadSlot, NoSuchProcedure, Repeated}
+use Rattle.refusals.specs.declared.track.TrackRefusal as tracks
+use Rattle.refusals.specs.declared.track.TrackRefusal.TheVariants.{Empty, TooMany, UnknownName, BadSlot, NoSuchProcedure, Repeated}
 
 abbrev pub at_offset : List ℕ → ℕ → List ℕ
 at_offset text offset = codes "refused " ++ text ++ codes " at offset " ++ dec offset ++ nl

@@ -17,8 +17,8 @@ use Rattle.start_registers.specs.Settings.{IsRegistersOf}
 use Rattle.report_text.specs.Text.{text_of}
 use Rattle.report_text.specs.declared.reports.Report.{Report}
 use Rattle.report_read.specs.Telling.{IsTold}
-use Rattle.report_read.specs.declared.refusal.ReportRefusal as reports
-use Rattle.report_read.specs.declared.refusal.ReportRefusal.{ReportRefusal}
+use Rattle.refusals.specs.declared.report.ReportRefusal as reports
+use Rattle.refusals.specs.declared.report.ReportRefusal.{ReportRefusal}
 use Rattle.run_answers.specs.Answers.{IsReadIn, IsRunAnswer}
 use Rattle.run_answers.specs.Lines.{report_line}
 use Rattle.analyser_core.specs.Upgrades.{IsUpgradeOf, IsUpgradeRefusal}

@@ -3,8 +3,8 @@
 ghost use Rattle.std.specs.Prelude.{◌≡◌, IfOk, codes};
 ghost use Rattle.number_text.specs.Numerals.{dec, hex};
 ghost use Rattle.rv_decode.specs.Registers.{name_of_register};
-ghost use Rattle.elf_image.specs.declared.refusal.ElfRefusal.TheVariants.{NoCode};
-ghost use Rattle.flow_points.specs.declared.refusal.FlowRefusal.TheVariants.{NoInstruction};
+ghost use Rattle.refusals.specs.declared.elf.ElfRefusal.TheVariants.{NoCode};
+ghost use Rattle.refusals.specs.declared.flow.FlowRefusal.TheVariants.{NoInstruction};
 ghost use Rattle.analyser_main.specs.Lines.{at_offset, at_address, valued, elf_line, flow_line, refused, too_long_line, report_too_long_line, IsLineOf};
 
 use crate::points_list::push_word;

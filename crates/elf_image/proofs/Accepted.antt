@@ -11,8 +11,8 @@ use Rattle.elf_image.specs.Fetches.{fetch, fetch_length, fetched_in, read}
 use Rattle.elf_image.specs.Ranges.{is_in}
 use Rattle.elf_image.specs.Segments.{IsLoadable, shares_address, kept_headers, segment_of, segments_of}
 use Rattle.elf_image.specs.Refusals.{when, at_header, first_of, header_refusal, kept_refusal, entry_refusal, shares_earlier, refusals_of, refusal_of}
-use Rattle.elf_image.specs.declared.refusal.ElfRefusal.{ElfRefusal}
-use Rattle.elf_image.specs.declared.refusal.ElfRefusal.TheVariants.{Dynamic, BadSegment, TooManySegments, Overlap, NoCode}
+use Rattle.refusals.specs.declared.elf.ElfRefusal.{ElfRefusal}
+use Rattle.refusals.specs.declared.elf.ElfRefusal.TheVariants.{Dynamic, BadSegment, TooManySegments, Overlap, NoCode}
 use Rattle.elf_image.specs.declared.program_header.ProgramHeader.{ProgramHeader}
 use Rattle.elf_image.specs.declared.segment.Segment.{Segment}
 use Rattle.elf_image.specs.declared.range.Range.{Range}

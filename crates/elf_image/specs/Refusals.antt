@@ -23,8 +23,8 @@ use Rattle.elf_image.specs.Segments.{shares_address, segment_of, kept_headers, s
 use Rattle.elf_image.specs.Fetches.{fetched_in}
 use Rattle.elf_image.specs.declared.program_header.ProgramHeader.{ProgramHeader}
 use Rattle.elf_image.specs.declared.segment.Segment.{Segment}
-use Rattle.elf_image.specs.declared.refusal.ElfRefusal.{ElfRefusal}
-use Rattle.elf_image.specs.declared.refusal.ElfRefusal.TheVariants.{Short, NotElf, NotClass64, NotLittle, NotExec, NotRiscv, Rve, BadHeaderTable, Dynamic, BadSegment, TooManySegments, Overlap, NoCode}
+use Rattle.refusals.specs.declared.elf.ElfRefusal.{ElfRefusal}
+use Rattle.refusals.specs.declared.elf.ElfRefusal.TheVariants.{Short, NotElf, NotClass64, NotLittle, NotExec, NotRiscv, Rve, BadHeaderTable, Dynamic, BadSegment, TooManySegments, Overlap, NoCode}
 
 abbrev pub when : Bool → ElfRefusal → Option ElfRefusal
 when condition refusal = if condition then Some refusal else None

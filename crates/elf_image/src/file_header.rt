@@ -7,7 +7,7 @@ ghost use Rattle.elf_image.specs.Refusals.{IsVerdict, identity_refusal, machine_
 
 use crate::fields::{half_at, word_at, xword_at};
 use crate::program_header::HEADER_SIZE;
-use crate::refusal::ElfRefusal;
+use refusals::ElfRefusal;
 
 /// The bytes of a file header.
 const FILE_HEADER_SIZE: usize = 64;

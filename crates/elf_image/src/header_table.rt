@@ -8,7 +8,7 @@ ghost use Rattle.elf_image.specs.Refusals.{IsVerdict, header_refusal};
 
 use crate::file_header::{e_phnum, e_phoff};
 use crate::program_header::{HEADER_SIZE, ProgramHeader};
-use crate::refusal::ElfRefusal;
+use refusals::ElfRefusal;
 use std::alloc::{AllocError, Global};
 
 /// The headers of the table, in order.

@@ -9,8 +9,8 @@ ghost use Rattle.elf_image.specs.Refusals.{IsVerdict, kept_refusal, entry_refusa
 use crate::file_header::{e_entry, unit_of};
 use crate::loaded::fetched_in;
 use crate::program_header::ProgramHeader;
-use crate::refusal::ElfRefusal;
 use crate::segment::Segment;
+use refusals::ElfRefusal;
 use std::alloc::{AllocError, Global};
 
 /// At most so many segments are kept.

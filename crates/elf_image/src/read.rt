@@ -10,9 +10,9 @@ use crate::file_header::{check_identity, check_machine, check_table, e_entry, un
 use crate::header_table::{check_headers, program_headers};
 use crate::image::Image;
 use crate::kept::{check_entry, check_kept, kept_headers, segments};
-use crate::refusal::ElfRefusal;
 use crate::segment::Segment;
 use crate::symbols::symbols;
+use refusals::ElfRefusal;
 use sqlite_items::Items;
 use std::alloc::Global;
 

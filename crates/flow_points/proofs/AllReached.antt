@@ -13,7 +13,7 @@ use Rattle.flow_points.specs.declared.code_points.Point.{Point}
 use Rattle.flow_points.specs.declared.code_points.CodePoint.{CodePoint}
 use Rattle.flow_points.specs.declared.code_points.Flow.{Flow}
 use Rattle.flow_points.specs.declared.code_points.Site.{Site}
-use Rattle.flow_points.specs.declared.refusal.FlowRefusal.{FlowRefusal}
+use Rattle.refusals.specs.declared.flow.FlowRefusal.{FlowRefusal}
 use Rattle.flow_points.proofs.OneOutcome.{judged_once, same_flow}
 use Rattle.flow_points.proofs.SamePoint.{laws, same, tells}
 use Rattle.flow_points.proofs.SiteFacts.{site_cause, site_flow}

@@ -11,8 +11,8 @@ use Rattle.flow_points.specs.Causes.{cause_in, cause_of, flow_cause, pair_cause,
 use Rattle.flow_points.specs.declared.code_points.Point.{Point}
 use Rattle.flow_points.specs.declared.code_points.CodePoint.{CodePoint}
 use Rattle.flow_points.specs.declared.code_points.Site.{Site}
-use Rattle.flow_points.specs.declared.refusal.FlowRefusal.{FlowRefusal}
-use Rattle.flow_points.specs.declared.refusal.FlowRefusal.TheVariants.{IntoPair}
+use Rattle.refusals.specs.declared.flow.FlowRefusal.{FlowRefusal}
+use Rattle.refusals.specs.declared.flow.FlowRefusal.TheVariants.{IntoPair}
 use Rattle.flow_points.proofs.AllReached.{all_reached, entry_of, is_site}
 use Rattle.flow_points.proofs.Entering.{EntersPair, flow_cause_is}
 use Rattle.flow_points.proofs.Lists.{cons_cases, from_map}

@@ -1,15 +1,15 @@
 -- The address that a cause names.
 use Rattle.std.proofs.Common.{◌≡◌, ℕ, ◌<◌, ◌%◌, ℤ, pos, Bool, true, false, eqb, ◌&&◌, ◌||◌, if◌then◌else◌, Option, None, Some, Result, Ok, Err, refl, sym, ap, subst, arith}
 use Rattle.std.specs.Ordering.{int_eq}
-use Rattle.rv_decode.specs.declared.instructions.Instr.{Instr}
-use Rattle.rv_decode.specs.declared.instructions.Instr.TheVariants.{Jal, Jalr, Branch as BranchInstr}
+use Rattle.rv_instr.specs.declared.Instr.{Instr}
+use Rattle.rv_instr.specs.declared.Instr.TheVariants.{Jal, Jalr, Branch as BranchInstr}
 use Rattle.flow_points.specs.Flows.{Fetches, Judged, aligned, flow_of, indirect, known, linked, next, outside, pair_target, plus, unknown}
 use Rattle.flow_points.specs.Refusals.{HasCause, into_pair, number_of, address_of, there}
 use Rattle.flow_points.specs.declared.code_points.Flow.{Flow}
 use Rattle.flow_points.specs.declared.code_points.Flow.TheVariants.{Branch, Call, Jump, Return}
 use Rattle.flow_points.specs.declared.code_points.Point.{Point}
-use Rattle.flow_points.specs.declared.refusal.FlowRefusal.{FlowRefusal}
-use Rattle.flow_points.specs.declared.refusal.FlowRefusal.TheVariants.{IndirectJump, MisalignedTarget, NoInstruction, OddLink, OutsideCode}
+use Rattle.refusals.specs.declared.flow.FlowRefusal.{FlowRefusal}
+use Rattle.refusals.specs.declared.flow.FlowRefusal.TheVariants.{IndirectJump, MisalignedTarget, NoInstruction, OddLink, OutsideCode}
 
 -- a cause that names this address and comes before the last one
 pub record IsNamed (a : ℕ) (c : FlowRefusal) : Type 0 where

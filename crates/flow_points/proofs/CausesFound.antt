@@ -10,7 +10,7 @@ use Rattle.flow_points.specs.declared.code_points.Point.{Point}
 use Rattle.flow_points.specs.declared.code_points.CodePoint.{CodePoint}
 use Rattle.flow_points.specs.declared.code_points.Flow.{Flow}
 use Rattle.flow_points.specs.declared.code_points.Site.{Site}
-use Rattle.flow_points.specs.declared.refusal.FlowRefusal.{FlowRefusal}
+use Rattle.refusals.specs.declared.flow.FlowRefusal.{FlowRefusal}
 use Rattle.flow_points.proofs.AllReached.{all_reached, code_of, entry_of, is_site, not_both}
 use Rattle.flow_points.proofs.Candidates.{candidates, is_cause, pair_found}
 use Rattle.flow_points.proofs.Entering.{flow_cause_has}

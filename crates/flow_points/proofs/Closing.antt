@@ -9,7 +9,7 @@ use Rattle.flow_points.specs.Sites.{HasSite, HasSuccessors}
 use Rattle.flow_points.specs.declared.code_points.Point.{Point}
 use Rattle.flow_points.specs.declared.code_points.Site.{Site}
 use Rattle.flow_points.specs.declared.code_points.CodePoint.{CodePoint}
-use Rattle.flow_points.specs.declared.refusal.FlowRefusal.{FlowRefusal}
+use Rattle.refusals.specs.declared.flow.FlowRefusal.{FlowRefusal}
 use Rattle.flow_points.proofs.Reaching.{still_there}
 
 pub grown : (old new : List (Point × Site)) → ((p : Point) → HasSite old p → HasSite new p) → (e : Point × Site)

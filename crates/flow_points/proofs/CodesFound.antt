@@ -13,7 +13,7 @@ use Rattle.flow_points.specs.PointLists.{places_of}
 use Rattle.flow_points.specs.declared.code_points.Point.{Point}
 use Rattle.flow_points.specs.declared.code_points.CodePoint.{CodePoint}
 use Rattle.flow_points.specs.declared.code_points.Site.{Site}
-use Rattle.flow_points.specs.declared.refusal.FlowRefusal.{FlowRefusal}
+use Rattle.refusals.specs.declared.flow.FlowRefusal.{FlowRefusal}
 
 -- one entry more, with code and without
 codes_more : (entries : List (Point × Site)) (i : ℕ) (e : Point × Site) → slice_get entries i ≡ Some e

@@ -8,7 +8,7 @@ use Rattle.flow_points.specs.declared.code_points.Point.{Point}
 use Rattle.flow_points.specs.declared.code_points.Site.{Site}
 use Rattle.flow_points.specs.declared.code_points.Flow.{Flow}
 use Rattle.flow_points.specs.declared.code_points.Flow.TheVariants.{Next, Jump, Branch, Call, Return, Halt}
-use Rattle.flow_points.specs.declared.refusal.FlowRefusal.{FlowRefusal}
+use Rattle.refusals.specs.declared.flow.FlowRefusal.{FlowRefusal}
 use Rattle.flow_points.proofs.Lists.{alone, cons_cases, first, only, second}
 use Rattle.flow_points.proofs.SamePoint.{one_point}
 use Rattle.flow_points.proofs.Soonest.{IsNoLater, first_no_later, is_one, itself_no_later, second_no_later}

@@ -2,14 +2,14 @@
 use Rattle.std.proofs.Common.{◌≡◌, ℕ, Option, None, Some, Result, Ok, refl, sym, subst}
 use Rattle.elf_image.specs.declared.fetched.Fetched.{Fetched}
 use Rattle.rv_decode.specs.Instructions.{Means}
-use Rattle.rv_decode.specs.declared.instructions.Instr.{Instr}
-use Rattle.rv_decode.specs.declared.instructions.Instr.TheVariants.{Auipc}
+use Rattle.rv_instr.specs.declared.Instr.{Instr}
+use Rattle.rv_instr.specs.declared.Instr.TheVariants.{Auipc}
 use Rattle.rv_decode.proofs.Table.{one_instruction}
 use Rattle.rvc_expand.specs.Lengths.{MeansWithLength}
 use Rattle.rvc_expand.proofs.Cited.{one_meaning}
 use Rattle.flow_points.specs.Flows.{Fetches, HasInstr, HasUpper, Judged, base_of, outside, unknown, known, prior}
 use Rattle.flow_points.specs.declared.code_points.Flow.{Flow}
-use Rattle.flow_points.specs.declared.refusal.FlowRefusal.{FlowRefusal}
+use Rattle.refusals.specs.declared.flow.FlowRefusal.{FlowRefusal}
 
 -- what is fetched at an address is one, and so is a word there
 one_value : {X : Type 0} (o : Option X) (v w : X) → o ≡ Some v → o ≡ Some w → v ≡ w

@@ -5,8 +5,8 @@ use Rattle.flow_points.specs.Walks.{most_points}
 use Rattle.elf_image.specs.declared.image.Image.{Image}
 use Rattle.flow_points.specs.Refusals.{HasCause, IsBad, IsFlowRefusal, IsFirstCause, IsRefusal, bad_point, into_pair, number_of, address_of, there, too_many}
 use Rattle.flow_points.specs.declared.code_points.Point.{Point}
-use Rattle.flow_points.specs.declared.refusal.FlowRefusal.{FlowRefusal}
-use Rattle.flow_points.specs.declared.refusal.FlowRefusal.TheVariants.{IntoPair, TooManyPoints}
+use Rattle.refusals.specs.declared.flow.FlowRefusal.{FlowRefusal}
+use Rattle.refusals.specs.declared.flow.FlowRefusal.TheVariants.{IntoPair, TooManyPoints}
 use Rattle.flow_points.proofs.CauseNames.{Outcome, judged_named, caused_at}
 use Rattle.flow_points.proofs.OneOutcome.{judged_once}
 

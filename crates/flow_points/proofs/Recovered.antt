@@ -16,7 +16,7 @@ use Rattle.flow_points.specs.PointLists.{ArePoints, entries_of, places_of, point
 use Rattle.flow_points.specs.declared.code_points.Point.{Point}
 use Rattle.flow_points.specs.declared.code_points.CodePoint.{CodePoint}
 use Rattle.flow_points.specs.declared.code_points.Site.{Site}
-use Rattle.flow_points.specs.declared.refusal.FlowRefusal.{FlowRefusal}
+use Rattle.refusals.specs.declared.flow.FlowRefusal.{FlowRefusal}
 use Rattle.flow_points.proofs.AllReached.{all_reached, not_too_many}
 use Rattle.flow_points.proofs.Ascent.{ascending}
 use Rattle.flow_points.proofs.CausesFound.{none_bad}

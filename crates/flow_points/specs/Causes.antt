@@ -24,8 +24,8 @@ use Rattle.flow_points.specs.declared.code_points.CodePoint.{CodePoint}
 use Rattle.flow_points.specs.declared.code_points.Flow.{Flow}
 use Rattle.flow_points.specs.declared.code_points.Flow.TheVariants.{Next, Jump, Branch, Call, Return, Halt}
 use Rattle.flow_points.specs.declared.code_points.Site.{Site}
-use Rattle.flow_points.specs.declared.refusal.FlowRefusal.{FlowRefusal}
-use Rattle.flow_points.specs.declared.refusal.FlowRefusal.TheVariants.{IntoPair}
+use Rattle.refusals.specs.declared.flow.FlowRefusal.{FlowRefusal}
+use Rattle.refusals.specs.declared.flow.FlowRefusal.TheVariants.{IntoPair}
 
 abbrev pub same_point : Point → Point → Bool
 same_point p q = p.proc_entry == q.proc_entry && p.address == q.address

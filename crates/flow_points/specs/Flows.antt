@@ -32,12 +32,12 @@ use Rattle.elf_image.specs.declared.image.Image.{Image}
 use Rattle.elf_image.specs.declared.fetched.Fetched.{Fetched}
 use Rattle.rv_decode.specs.Instructions.{Means}
 use Rattle.rvc_expand.specs.Lengths.{MeansWithLength}
-use Rattle.rv_decode.specs.declared.instructions.Instr.{Instr}
-use Rattle.rv_decode.specs.declared.instructions.Instr.TheVariants.{Auipc, Jal, Jalr, Branch as BranchInstr, Ebreak}
+use Rattle.rv_instr.specs.declared.Instr.{Instr}
+use Rattle.rv_instr.specs.declared.Instr.TheVariants.{Auipc, Jal, Jalr, Branch as BranchInstr, Ebreak}
 use Rattle.flow_points.specs.declared.code_points.Flow.{Flow}
 use Rattle.flow_points.specs.declared.code_points.Flow.TheVariants.{Next, Jump, Branch, Call, Return, Halt}
-use Rattle.flow_points.specs.declared.refusal.FlowRefusal.{FlowRefusal}
-use Rattle.flow_points.specs.declared.refusal.FlowRefusal.TheVariants.{OutsideCode, NoInstruction, OddLink, IndirectJump, MisalignedTarget}
+use Rattle.refusals.specs.declared.flow.FlowRefusal.{FlowRefusal}
+use Rattle.refusals.specs.declared.flow.FlowRefusal.TheVariants.{OutsideCode, NoInstruction, OddLink, IndirectJump, MisalignedTarget}
 
 pub record Fetches : Type 0 where
   pub unit : ℕ

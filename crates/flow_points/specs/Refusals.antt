@@ -14,8 +14,8 @@ use Rattle.elf_image.specs.declared.image.Image.{Image}
 use Rattle.flow_points.specs.Flows.{Fetches, IsSecondHalf, Judged, fetches_of}
 use Rattle.flow_points.specs.Walks.{FlowWalk, HasMoreThan, IsEntered, most_points}
 use Rattle.flow_points.specs.declared.code_points.Point.{Point}
-use Rattle.flow_points.specs.declared.refusal.FlowRefusal.{FlowRefusal}
-use Rattle.flow_points.specs.declared.refusal.FlowRefusal.TheVariants.{TooManyPoints, OutsideCode, NoInstruction, OddLink, IndirectJump, MisalignedTarget, IntoPair, Memory}
+use Rattle.refusals.specs.declared.flow.FlowRefusal.{FlowRefusal}
+use Rattle.refusals.specs.declared.flow.FlowRefusal.TheVariants.{TooManyPoints, OutsideCode, NoInstruction, OddLink, IndirectJump, MisalignedTarget, IntoPair, Memory}
 
 abbrev pub address_of : FlowRefusal → ℕ
 address_of (TooManyPoints limit) = 0

@@ -13,15 +13,15 @@
 --   AreAllSites fetches entry entries the start was found, and with each entry where the flow goes on from it
 use Rattle.std.specs.Prelude.{◌≡◌, ◌↔◌, ℕ, ◌≤◌, ◌==◌, IsTrue, List, ◌++◌, length, All, Contains, Option, None, Some, IfSome, Err, IfOk, IfErr, if◌then◌else◌}
 use Rattle.std.specs.Map.{keys_of}
-use Rattle.rv_decode.specs.declared.instructions.Instr.{Instr}
-use Rattle.rv_decode.specs.declared.instructions.Instr.TheVariants.{Auipc}
+use Rattle.rv_instr.specs.declared.Instr.{Instr}
+use Rattle.rv_instr.specs.declared.Instr.TheVariants.{Auipc}
 use Rattle.flow_points.specs.Flows.{Fetches, HasFlow, HasInstr, IsSecondHalf, Judged}
 use Rattle.flow_points.specs.Walks.{FlowWalk, HasMoreThan, most_points, start, successors_of}
 use Rattle.flow_points.specs.declared.code_points.Point.{Point}
 use Rattle.flow_points.specs.declared.code_points.CodePoint.{CodePoint}
 use Rattle.flow_points.specs.declared.code_points.Site.{Site}
-use Rattle.flow_points.specs.declared.refusal.FlowRefusal.{FlowRefusal}
-use Rattle.flow_points.specs.declared.refusal.FlowRefusal.TheVariants.{TooManyPoints, Memory}
+use Rattle.refusals.specs.declared.flow.FlowRefusal.{FlowRefusal}
+use Rattle.refusals.specs.declared.flow.FlowRefusal.TheVariants.{TooManyPoints, Memory}
 
 abbrev pub auipc_field : Instr → ℕ → Option ℕ
 auipc_field (Auipc rd imm) r = if rd == r then Some imm else None

@@ -6,8 +6,8 @@ ghost use Rattle.flow_points.specs.Causes.{cause_into, cause_of, first_cause_of,
 
 use crate::code_points::{Flow, Point, Site};
 use crate::flows::prior;
-use crate::refusal::FlowRefusal;
 use crate::walks::{Sites, entry_at};
+use refusals::FlowRefusal;
 
 /// The first cause, by address and then by its number, that makes one of the points bad.
 pub fn first_cause(sites: &Sites, start: Point) -> Option<FlowRefusal>

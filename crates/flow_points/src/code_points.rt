@@ -1,6 +1,6 @@
 //! Points and flow, as plain data.
 
-use crate::refusal::FlowRefusal;
+use refusals::FlowRefusal;
 use rv_decode::Instr;
 
 /// An address, with the entry of the procedure in which it is reached.

@@ -4,7 +4,7 @@ ghost use Rattle.std.specs.Prelude.{◌≡◌, ◌<◌};
 ghost use Rattle.flow_points.specs.Flows.{aligned, base_of, flow_of, indirect, linked, next, pair_target, plus, prior};
 
 use crate::code_points::Flow;
-use crate::refusal::FlowRefusal;
+use refusals::FlowRefusal;
 use rv_decode::Instr;
 
 const ZERO: u8 = 0;

@@ -18,7 +18,6 @@ mod flows;
 pub mod laws;
 mod points;
 mod recovery;
-mod refusal;
 mod sites;
 #[cfg(test)]
 mod tests;
@@ -27,4 +26,4 @@ mod walks;
 pub use code_points::{CodePoint, Flow, Point};
 pub use points::Points;
 pub use recovery::recover;
-pub use refusal::FlowRefusal;
+pub use refusals::FlowRefusal;

@@ -14,9 +14,9 @@ ghost use Rattle.flow_points.specs.PointLists.{ArePointsOf, entries_of, point_cm
 use crate::causes::first_cause;
 use crate::code_points::{CodePoint, Point};
 use crate::points::Points;
-use crate::refusal::FlowRefusal;
 use crate::walks::{Sites, entry_at, reached};
 use elf_image::Image;
+use refusals::FlowRefusal;
 use sqlite_items::Items;
 use std::alloc::{AllocError, Global};
 

@@ -6,8 +6,8 @@ ghost use Rattle.flow_points.specs.Sites.{IsSite, auipc_field};
 
 use crate::code_points::{CodePoint, Point, Site};
 use crate::flows::{base_of, flow_of, next, prior};
-use crate::refusal::FlowRefusal;
 use elf_image::Image;
+use refusals::FlowRefusal;
 use rv_decode::{Instr, decode};
 use rvc_expand::decode_with_length;
 

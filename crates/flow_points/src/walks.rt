@@ -6,10 +6,10 @@ ghost use Rattle.flow_points.specs.Walks.{FlowWalk, point, successors_of};
 ghost use Rattle.flow_points.specs.Sites.{AreSites, AreAllSites, Adds, HasSuccessors, HasSite, IsStop};
 
 use crate::code_points::{Flow, Point, Site};
-use crate::refusal::FlowRefusal;
 use crate::sites::site_at;
 use elf_image::Image;
 use indexmap::IndexMap;
+use refusals::FlowRefusal;
 use std::alloc::Global;
 
 /// Points with what there is at each, in the order in which they were found.

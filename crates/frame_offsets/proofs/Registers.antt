@@ -1,9 +1,9 @@
 -- Sources are registers.
 use Rattle.std.proofs.Common.{◌≡◌, ℕ, ◌<◌, ℤ, pos, Bool, true, false, eqb, if◌then◌else◌, Option, None, Some, sym, ap, subst, arith}
 use Rattle.rv_decode.specs.Instructions.{IsWellFormed}
-use Rattle.rv_decode.specs.declared.instructions.Instr.{Instr}
-use Rattle.rv_decode.specs.declared.instructions.Instr.TheVariants.{Imm}
-use Rattle.rv_decode.specs.declared.instructions.ImmOp.TheVariants.{Addi}
+use Rattle.rv_instr.specs.declared.Instr.{Instr}
+use Rattle.rv_instr.specs.declared.Instr.TheVariants.{Imm}
+use Rattle.rv_instr.specs.declared.ImmOp.TheVariants.{Addi}
 use Rattle.flow_points.specs.declared.code_points.Flow.{Flow}
 use Rattle.flow_points.specs.declared.code_points.Flow.TheVariants.{Call}
 use Rattle.frame_offsets.specs.Frames.{is_kept_by_calls, kept_unless, source_in, source_of, written_by}

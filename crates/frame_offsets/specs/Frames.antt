@@ -21,9 +21,9 @@
 --   AreOffsetsOf points offsets the same for the points of an image
 --   offset_at offsets i r       the offset of r at point i
 use Rattle.std.specs.Prelude.{◌≡◌, ℕ, ◌+◌, ◌*◌, ◌<◌, ◌==◌, nat_le, Bool, ◌&&◌, ◌||◌, ℤ, pos, List, [], ◌∷◌, length, Contains, Option, None, Some, MatchOption, option_map, slice_get, slice_index_or, if◌then◌else◌}
-use Rattle.rv_decode.specs.declared.instructions.Instr.{Instr}
-use Rattle.rv_decode.specs.declared.instructions.Instr.TheVariants.{Lui, Auipc, Jal, Jalr, Branch as BranchInstr, Load, Store, Imm, Shift, Reg, Fence, Ecall, Ebreak}
-use Rattle.rv_decode.specs.declared.instructions.ImmOp.TheVariants.{Addi}
+use Rattle.rv_instr.specs.declared.Instr.{Instr}
+use Rattle.rv_instr.specs.declared.Instr.TheVariants.{Lui, Auipc, Jal, Jalr, Branch as BranchInstr, Load, Store, Imm, Shift, Reg, Fence, Ecall, Ebreak}
+use Rattle.rv_instr.specs.declared.ImmOp.TheVariants.{Addi}
 use Rattle.flow_points.specs.Flows.{plus}
 use Rattle.flow_points.specs.Walks.{point}
 use Rattle.flow_points.specs.PointLists.{FlowPoints}

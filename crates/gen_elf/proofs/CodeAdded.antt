@@ -5,7 +5,7 @@ use Rattle.std.proofs.lemmas.Grind.{flat_map-append}
 use Rattle.std.specs.List.{AllZip, flat_map, range_with_len}
 use Rattle.byteorder.specs.Endian.{little_bytes}
 use Rattle.rv_decode.specs.Instructions.{Means}
-use Rattle.rv_decode.specs.declared.instructions.Instr.{Instr}
+use Rattle.rv_instr.specs.declared.Instr.{Instr}
 use Rattle.gen_elf.specs.Generated.{AddsCode, procedure_code}
 
 mean_behind : (words more : List ℕ) (code behind : List Instr) → AllZip Means words code → AllZip Means more behind →

@@ -3,7 +3,7 @@ use Rattle.std.proofs.Common.{◌≡◌, ℕ, zero, suc, ◌+◌, ◌*◌, List,
 use Rattle.std.specs.List.{AllZip, flat_map, range_with_len}
 use Rattle.byteorder.specs.Endian.{little_bytes}
 use Rattle.rv_decode.specs.Instructions.{Means}
-use Rattle.rv_decode.specs.declared.instructions.Instr.{Instr}
+use Rattle.rv_instr.specs.declared.Instr.{Instr}
 use Rattle.gen_elf.specs.Generated.{AddsCode, IsGenerated, code_of, file_header, file_size, procedure_code, program_header}
 
 words_length : (words : List ℕ) → length (flat_map (little_bytes 4) words) ≡ 4 * length words

@@ -25,14 +25,14 @@ use Rattle.std.specs.Prelude.{◌≡◌, ℕ, ◌+◌, ◌-◌, ◌*◌, ◌≤�
 use Rattle.std.specs.List.{AllZip, flat_map, range_with_len}
 use Rattle.byteorder.specs.Endian.{little_bytes}
 use Rattle.rv_decode.specs.Instructions.{Means}
-use Rattle.rv_decode.specs.declared.instructions.Instr.{Instr}
-use Rattle.rv_decode.specs.declared.instructions.Instr.TheVariants.{Jal, Jalr, Branch, Load, Store, Imm, Ebreak}
-use Rattle.rv_decode.specs.declared.instructions.BranchOp.TheVariants.{Beq}
-use Rattle.rv_decode.specs.declared.instructions.LoadOp.TheVariants.{Ld}
-use Rattle.rv_decode.specs.declared.instructions.StoreOp.TheVariants.{Sd}
-use Rattle.rv_decode.specs.declared.instructions.ImmOp.TheVariants.{Addi}
-use Rattle.gen_elf.specs.declared.refusal.GenRefusal.{GenRefusal}
-use Rattle.gen_elf.specs.declared.refusal.GenRefusal.TheVariants.{Range, Memory}
+use Rattle.rv_instr.specs.declared.Instr.{Instr}
+use Rattle.rv_instr.specs.declared.Instr.TheVariants.{Jal, Jalr, Branch, Load, Store, Imm, Ebreak}
+use Rattle.rv_instr.specs.declared.BranchOp.TheVariants.{Beq}
+use Rattle.rv_instr.specs.declared.LoadOp.TheVariants.{Ld}
+use Rattle.rv_instr.specs.declared.StoreOp.TheVariants.{Sd}
+use Rattle.rv_instr.specs.declared.ImmOp.TheVariants.{Addi}
+use Rattle.refusals.specs.declared.generated.GenRefusal.{GenRefusal}
+use Rattle.refusals.specs.declared.generated.GenRefusal.TheVariants.{Range, Memory}
 
 abbrev pub most_procedures : ℕ
 most_procedures = 100

@@ -12,10 +12,9 @@
 mod code;
 mod generator;
 mod headers;
-mod refusal;
 
 pub use generator::generate;
-pub use refusal::GenRefusal;
+pub use refusals::GenRefusal;
 
 #[cfg(test)]
 mod tests;

@@ -5,8 +5,8 @@ use Rattle.report_text.specs.declared.reports.Report.{Report}
 use Rattle.report_lines.specs.Lines.{header_text}
 use Rattle.report_lines.specs.Parts.{parts_of}
 use Rattle.report_read.specs.declared.draft.Draft.{Draft}
-use Rattle.report_read.specs.declared.refusal.ReportRefusal.{ReportRefusal}
-use Rattle.report_read.specs.declared.refusal.ReportRefusal.TheVariants as refusals
+use Rattle.refusals.specs.declared.report.ReportRefusal.{ReportRefusal}
+use Rattle.refusals.specs.declared.report.ReportRefusal.TheVariants as refusals
 use Rattle.report_read.specs.Judging.{IsEndJudged, IsJudged, IsLineJudged, IsReportOf, goes_on, refused, rows, unfinished, whole}
 use Rattle.report_read.specs.Steps.{IsStep}
 use Rattle.report_read.specs.Telling.{begun, IsEndTold, IsFirstLine, IsJudgedOr, IsTold, IsTrackJudged, IsTrackTold, header, Outcome, UnlessMemory}

@@ -11,8 +11,8 @@ use Rattle.report_read.specs.declared.draft.Place.TheVariants as places
 use Rattle.report_read.specs.Drafts.{are_wanted, closed, closed_at}
 use Rattle.report_read.specs.Judging.{IsEndJudged, IsJudged, IsLineJudged, IsNext, before, rows, unfinished, whole, goes_on, refused}
 use Rattle.report_read.specs.Telling.{Outcome}
-use Rattle.report_read.specs.declared.refusal.ReportRefusal.{ReportRefusal}
-use Rattle.report_read.specs.declared.refusal.ReportRefusal.TheVariants as refusals
+use Rattle.refusals.specs.declared.report.ReportRefusal.{ReportRefusal}
+use Rattle.refusals.specs.declared.report.ReportRefusal.TheVariants as refusals
 use Rattle.report_read.proofs.Kept.{at}
 use Rattle.report_read.proofs.Left.{IsLeft}
 use Rattle.report_read.proofs.LeftMore.{behind_rows}

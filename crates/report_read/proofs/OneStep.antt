@@ -7,8 +7,8 @@ use Rattle.report_lines.proofs.OneLine.{one_line}
 use Rattle.report_read.specs.declared.draft.Draft.{Draft}
 use Rattle.report_read.specs.declared.draft.Place.{Place}
 use Rattle.report_read.specs.declared.draft.Place.TheVariants as places
-use Rattle.report_read.specs.declared.refusal.ReportRefusal.{ReportRefusal}
-use Rattle.report_read.specs.declared.refusal.ReportRefusal.TheVariants as refusals
+use Rattle.refusals.specs.declared.report.ReportRefusal.{ReportRefusal}
+use Rattle.refusals.specs.declared.report.ReportRefusal.TheVariants as refusals
 use Rattle.report_read.specs.Drafts.{AreKnown, IsOrdered}
 use Rattle.report_read.specs.Judging.{AreRowsFine, AreRowsWrong, IsEndJudged, IsNext, IsPassed, IsRefusal, IsRelationPiece, IsReportOf, before, rows, not_allowed, not_known, not_ordered, unfinished, whole}
 use Rattle.report_read.specs.Telling.{Outcome}

@@ -6,7 +6,7 @@ use Rattle.report_text.specs.declared.names.Tracked.{Tracked}
 use Rattle.report_lines.specs.NameTexts.{IsAddressed}
 use Rattle.report_lines.proofs.OneLine.{one_line}
 use Rattle.report_read.specs.declared.draft.Draft.{Draft}
-use Rattle.report_read.specs.declared.refusal.ReportRefusal.{ReportRefusal}
+use Rattle.refusals.specs.declared.report.ReportRefusal.{ReportRefusal}
 use Rattle.report_read.specs.Drafts.{BecomesAt, closed}
 use Rattle.report_read.specs.Judging.{IsJudged, IsLineJudged, IsNext, before, goes_on, refused}
 use Rattle.report_read.specs.Telling.{Outcome}

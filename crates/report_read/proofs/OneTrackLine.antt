@@ -6,7 +6,7 @@ use Rattle.report_text.specs.declared.names.Tracked.{Tracked}
 use Rattle.report_lines.specs.Parts.{HasNo, parts_of}
 use Rattle.report_lines.specs.Tracks.{AreListed, AreReadNames, IsNamed, track_text}
 use Rattle.report_lines.proofs.Listed.{all_named}
-use Rattle.report_read.specs.declared.refusal.ReportRefusal.TheVariants as refusals
+use Rattle.refusals.specs.declared.report.ReportRefusal.TheVariants as refusals
 use Rattle.report_read.specs.Judging.{IsJudged}
 use Rattle.report_read.specs.Telling.{begun, IsFirstLine, IsTrackJudged, lines, missing, no_names, Outcome, repeated, unknown}
 use Rattle.report_read.proofs.OneTelling.{one_judged}

@@ -4,8 +4,8 @@ use Rattle.std.proofs.Props.{props}
 use Rattle.std.proofs.Math.Logic.{∥∥₁_elim}
 use Rattle.report_text.specs.declared.reports.Report.{Report}
 use Rattle.report_text.specs.Text.{text_of}
-use Rattle.report_read.specs.declared.refusal.ReportRefusal.{ReportRefusal}
-use Rattle.report_read.specs.declared.refusal.ReportRefusal.TheVariants as refusals
+use Rattle.refusals.specs.declared.report.ReportRefusal.{ReportRefusal}
+use Rattle.refusals.specs.declared.report.ReportRefusal.TheVariants as refusals
 use Rattle.report_read.specs.Telling.{IsTextJudged, IsTold, Outcome}
 use Rattle.report_read.specs.Written.{IsOfWords, IsReadAs}
 use Rattle.report_read.proofs.OneTelling.{all_apart}

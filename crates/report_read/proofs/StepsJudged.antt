@@ -9,8 +9,8 @@ use Rattle.report_lines.proofs.OneLine.{one_line}
 use Rattle.report_read.specs.declared.draft.Draft.{Draft}
 use Rattle.report_read.specs.declared.draft.Place.{Place}
 use Rattle.report_read.specs.declared.draft.Place.TheVariants as places
-use Rattle.report_read.specs.declared.refusal.ReportRefusal.{ReportRefusal}
-use Rattle.report_read.specs.declared.refusal.ReportRefusal.TheVariants as refusals
+use Rattle.refusals.specs.declared.report.ReportRefusal.{ReportRefusal}
+use Rattle.refusals.specs.declared.report.ReportRefusal.TheVariants as refusals
 use Rattle.report_read.specs.Drafts.{closed, entry_at, is_allowed, is_allowed_at}
 use Rattle.report_read.specs.Judging.{AreRowsFine, AreRowsWrong, before, rows, not_allowed, not_known, not_ordered}
 use Rattle.report_read.specs.Steps.{IsClosed, IsLineStep, IsOtherStep, a_line, no_line, IsRelationAt, IsRelationIn, IsStep}

@@ -12,8 +12,8 @@ use Rattle.report_text.specs.Text.{name_text, names_text, nl, points_text, text_
 use Rattle.report_lines.specs.Lines.{header_text}
 use Rattle.report_lines.specs.Parts.{parts_of}
 use Rattle.report_lines.specs.Tracks.{track_text}
-use Rattle.report_read.specs.declared.refusal.ReportRefusal.{ReportRefusal}
-use Rattle.report_read.specs.declared.refusal.ReportRefusal.TheVariants as refusals
+use Rattle.refusals.specs.declared.report.ReportRefusal.{ReportRefusal}
+use Rattle.refusals.specs.declared.report.ReportRefusal.TheVariants as refusals
 use Rattle.report_read.specs.Telling.{begun, IsTextJudged, IsTold, IsTrackJudged, Outcome, header, lines, missing, no_header, no_names, repeated, unknown}
 use Rattle.report_read.proofs.Found.{found}
 use Rattle.report_read.proofs.Reaching.{Reaches}

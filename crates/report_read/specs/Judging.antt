@@ -21,8 +21,8 @@ use Rattle.report_lines.specs.Terms.{Term}
 use Rattle.report_read.specs.declared.draft.Draft.{Draft}
 use Rattle.report_read.specs.declared.draft.Place.{Place}
 use Rattle.report_read.specs.declared.draft.Place.TheVariants as places
-use Rattle.report_read.specs.declared.refusal.ReportRefusal.{ReportRefusal}
-use Rattle.report_read.specs.declared.refusal.ReportRefusal.TheVariants as refusals
+use Rattle.refusals.specs.declared.report.ReportRefusal.{ReportRefusal}
+use Rattle.refusals.specs.declared.report.ReportRefusal.TheVariants as refusals
 use Rattle.report_read.specs.Drafts.{AreKnown, Becomes, IsOrdered, closed, is_allowed}
 
 abbrev pub AreRowsFine : Place → Type 0

@@ -16,8 +16,8 @@ use Rattle.report_lines.specs.Lines.{header_text}
 use Rattle.report_lines.specs.Tracks.{AreListed, AreReadNames, IsNamed, track_text}
 use Rattle.report_read.specs.declared.draft.Draft.{Draft}
 use Rattle.report_read.specs.declared.draft.Place.TheVariants as places
-use Rattle.report_read.specs.declared.refusal.ReportRefusal.{ReportRefusal}
-use Rattle.report_read.specs.declared.refusal.ReportRefusal.TheVariants as refusals
+use Rattle.refusals.specs.declared.report.ReportRefusal.{ReportRefusal}
+use Rattle.refusals.specs.declared.report.ReportRefusal.TheVariants as refusals
 use Rattle.report_read.specs.Judging.{AreRowsFine, AreRowsWrong, IsJudged}
 
 abbrev pub Outcome : Type 0

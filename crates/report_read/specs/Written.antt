@@ -5,8 +5,8 @@
 use Rattle.std.specs.Prelude.{◌≡◌, ◌<◌, ◌^◌, All, Result, Ok, Err}
 use Rattle.report_text.specs.declared.reports.Report.{Report}
 use Rattle.report_lines.specs.NameTexts.{IsAddressed}
-use Rattle.report_read.specs.declared.refusal.ReportRefusal.{ReportRefusal}
-use Rattle.report_read.specs.declared.refusal.ReportRefusal.TheVariants as refusals
+use Rattle.refusals.specs.declared.report.ReportRefusal.{ReportRefusal}
+use Rattle.refusals.specs.declared.report.ReportRefusal.TheVariants as refusals
 
 pub record IsOfWords (report : Report) : Type 0 where
   pub names : All IsAddressed report.tracked.names

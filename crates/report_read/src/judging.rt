@@ -6,10 +6,10 @@ ghost use Rattle.report_read.specs.Steps.{IsClosed, IsOtherStep, IsRelationAt, I
 
 use crate::draft::{Draft, Place};
 use crate::reduced::are_reduced;
-use crate::refusal::ReportRefusal;
 use crate::steps::{
     at_step, cert_step, end_step, no_rows_step, proc_step, relation_step, tell, unreached_step,
 };
+use refusals::ReportRefusal;
 use report_lines::{Line, Relation, behind, read_line, read_relation};
 use report_text::PointState;
 use std::alloc::Global;

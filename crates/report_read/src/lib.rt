@@ -18,7 +18,6 @@ mod judging;
 mod laws;
 mod read;
 mod reduced;
-mod refusal;
 mod steps;
 #[cfg(test)]
 mod tests;
@@ -26,4 +25,4 @@ mod tests;
 pub use draft::{Draft, Place};
 pub use laws::tellings_are_one;
 pub use read::read_report;
-pub use refusal::ReportRefusal;
+pub use refusals::ReportRefusal;

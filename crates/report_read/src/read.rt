@@ -11,7 +11,7 @@ ghost use Rattle.report_read.specs.Telling.{IsEndTold, IsJudgedOr, IsTold, IsTra
 
 use crate::draft::{Draft, Place};
 use crate::judging::{close, judge};
-use crate::refusal::ReportRefusal;
+use refusals::ReportRefusal;
 use report_lines::{TrackFault, cut_at, read_header, read_track};
 use report_text::{Report, Tracked};
 use sqlite_items::Items;

@@ -10,7 +10,7 @@ ghost use Rattle.report_read.specs.Drafts.{IsRegisterOf, are_wanted, entry_at, i
 ghost use Rattle.report_read.specs.Steps.{IsDraft, IsLineStep, IsNextCert, IsPlace};
 
 use crate::draft::{Draft, Place};
-use crate::refusal::ReportRefusal;
+use refusals::ReportRefusal;
 use report_lines::Relation;
 use report_text::{CertWord, Name, PointRows, PointState, ReportCert, is_certified};
 use rv_decode::register_name;

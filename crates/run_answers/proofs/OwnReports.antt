@@ -1,8 +1,8 @@
 -- Bytes that are the text of a known report are neither refused nor strange.
 use Rattle.std.proofs.Common.{◌≡◌, ◌≢◌, Bool, true, false, Ok, Err, Some, cond, refl, subst, inl, inr}
 use Rattle.report_text.specs.declared.reports.Report.{Report}
-use Rattle.report_read.specs.declared.refusal.ReportRefusal.{ReportRefusal}
-use Rattle.report_read.specs.declared.refusal.ReportRefusal.TheVariants.{Syntax, UnknownName, Order, NotReduced, Memory}
+use Rattle.refusals.specs.declared.report.ReportRefusal.{ReportRefusal}
+use Rattle.refusals.specs.declared.report.ReportRefusal.TheVariants.{Syntax, UnknownName, Order, NotReduced, Memory}
 use Rattle.report_read.specs.Written.{IsReadAs}
 use Rattle.report_read.proofs.ReportRead.{text_read}
 use Rattle.run_watch.specs.Strangers.{IsStranger}

@@ -17,8 +17,8 @@ use Rattle.flow_points.specs.PointLists.{FlowPoints}
 use Rattle.report_text.specs.Text.{text_of}
 use Rattle.report_text.specs.declared.reports.Report.{Report}
 use Rattle.report_read.specs.Telling.{IsTold}
-use Rattle.report_read.specs.declared.refusal.ReportRefusal.{ReportRefusal}
-use Rattle.report_read.specs.declared.refusal.ReportRefusal.TheVariants.{Memory}
+use Rattle.refusals.specs.declared.report.ReportRefusal.{ReportRefusal}
+use Rattle.refusals.specs.declared.report.ReportRefusal.TheVariants.{Memory}
 use Rattle.run_watch.specs.Runs.{Sight, IsRunOf, verdict}
 use Rattle.run_watch.specs.Strangers.{IsStranger}
 use Rattle.run_watch.specs.declared.context.Found.{Found}

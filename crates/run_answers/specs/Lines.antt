@@ -5,8 +5,8 @@
 --   stranger_line address   the line of a report that tells of what the file doesn't have
 use Rattle.std.specs.Prelude.{ℕ, List, [], ◌++◌, codes}
 use Rattle.number_text.specs.Numerals.{dec, hex}
-use Rattle.report_read.specs.declared.refusal.ReportRefusal.{ReportRefusal}
-use Rattle.report_read.specs.declared.refusal.ReportRefusal.TheVariants.{Syntax, UnknownName, Order, NotReduced, Memory}
+use Rattle.refusals.specs.declared.report.ReportRefusal.{ReportRefusal}
+use Rattle.refusals.specs.declared.report.ReportRefusal.TheVariants.{Syntax, UnknownName, Order, NotReduced, Memory}
 
 abbrev pub refused : List ℕ → List ℕ
 refused text = codes "refused report " ++ text ++ codes "\n"

@@ -10,10 +10,10 @@ use Rattle.map_modules.proofs.Entries.{IsRow-vector}
 use Rattle.affine_prog.specs.Assignments.{position_of}
 use Rattle.affine_prog.specs.declared.Assign.{Assign}
 use Rattle.rv_decode.specs.Instructions.{IsWellFormed, IsWithin}
-use Rattle.rv_decode.specs.declared.instructions.Instr.{Instr}
-use Rattle.rv_decode.specs.declared.instructions.Instr.TheVariants.{Lui, Auipc, Jal, Jalr, Branch, Load, Store, Imm, Shift, Reg, Fence, Ecall, Ebreak}
-use Rattle.rv_decode.specs.declared.instructions.StoreOp.{StoreOp}
-use Rattle.rv_decode.specs.declared.instructions.StoreOp.TheVariants.{Sb, Sh, Sw, Sd}
+use Rattle.rv_instr.specs.declared.Instr.{Instr}
+use Rattle.rv_instr.specs.declared.Instr.TheVariants.{Lui, Auipc, Jal, Jalr, Branch, Load, Store, Imm, Shift, Reg, Fence, Ecall, Ebreak}
+use Rattle.rv_instr.specs.declared.StoreOp.{StoreOp}
+use Rattle.rv_instr.specs.declared.StoreOp.TheVariants.{Sb, Sh, Sw, Sd}
 use Rattle.flow_points.specs.Flows.{plus}
 use Rattle.flow_points.specs.declared.code_points.CodePoint.{CodePoint}
 use Rattle.report_text.specs.declared.names.Name.{Name}

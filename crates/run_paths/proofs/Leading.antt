@@ -2,8 +2,8 @@
 use Rattle.std.proofs.Common.{◌≡◌, ℕ, ◌+◌, ◌%◌, ◌^◌, ◌<◌, pos, Contains, slice_index, List, Option, None, Some, ap, sym, ◌∙◌, arith, subst}
 use Rattle.elf_image.specs.declared.image.Image.{Image}
 use Rattle.rv_decode.specs.Instructions.{IsWellFormed}
-use Rattle.rv_decode.specs.declared.instructions.Instr.{Instr}
-use Rattle.rv_decode.specs.declared.instructions.Instr.TheVariants.{Auipc}
+use Rattle.rv_instr.specs.declared.Instr.{Instr}
+use Rattle.rv_instr.specs.declared.Instr.TheVariants.{Auipc}
 use Rattle.flow_points.specs.Flows.{HasUpper, IsFirstHalf, base_of, fetches_of, flow_of, next, prior}
 use Rattle.flow_points.specs.Walks.{successors_of}
 use Rattle.flow_points.specs.PointLists.{ArePointsOf, FlowPoints}

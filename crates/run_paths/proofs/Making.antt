@@ -5,7 +5,7 @@ use Rattle.elf_image.specs.Fetches.{fetch}
 use Rattle.elf_image.specs.declared.fetched.Fetched.{Fetched}
 use Rattle.elf_image.specs.declared.image.Image.{Image}
 use Rattle.rv_decode.specs.Instructions.{IsWellFormed}
-use Rattle.rv_decode.specs.declared.instructions.Instr.{Instr}
+use Rattle.rv_instr.specs.declared.Instr.{Instr}
 use Rattle.rvc_expand.specs.Lengths.{MeansWithLength}
 use Rattle.rvc_expand.proofs.Cited.{one_meaning}
 use Rattle.flow_points.specs.Flows.{fetches_of, HasUpper, Judged, base_of, flow_of, next, known, outside, unknown}
@@ -13,7 +13,7 @@ use Rattle.flow_points.specs.PointLists.{ArePointsOf, FlowPoints}
 use Rattle.flow_points.specs.Sites.{IsCode}
 use Rattle.flow_points.specs.declared.code_points.CodePoint.{CodePoint}
 use Rattle.flow_points.specs.declared.code_points.Flow.{Flow}
-use Rattle.flow_points.specs.declared.refusal.FlowRefusal.{FlowRefusal}
+use Rattle.refusals.specs.declared.flow.FlowRefusal.{FlowRefusal}
 use Rattle.flow_points.proofs.OneOutcome.{one_fetch, one_instr}
 use Rattle.flow_points.proofs.PointLaws.{in_range}
 use Rattle.rv_step.specs.Harts.{Hart}

@@ -9,8 +9,8 @@ use Rattle.elf_image.specs.Ranges.{executable_ranges}
 use Rattle.elf_image.specs.declared.image.Image.{Image}
 use Rattle.elf_image.proofs.Laws.{read_4, words}
 use Rattle.rv_decode.specs.Instructions.{Means}
-use Rattle.rv_decode.specs.declared.instructions.Instr.{Instr}
-use Rattle.rv_decode.specs.declared.instructions.Instr.TheVariants.{Lui, Auipc, Jal, Jalr, Branch, Load, Store, Imm, Shift, Reg, Fence, Ecall, Ebreak}
+use Rattle.rv_instr.specs.declared.Instr.{Instr}
+use Rattle.rv_instr.specs.declared.Instr.TheVariants.{Lui, Auipc, Jal, Jalr, Branch, Load, Store, Imm, Shift, Reg, Fence, Ecall, Ebreak}
 use Rattle.rvc_expand.specs.Lengths.{MeansWithLength, whole}
 use Rattle.rvc_expand.proofs.Cited.{one_meaning}
 use Rattle.flow_points.specs.Flows.{HasInstr, IsFirstHalf, IsSecondHalf, base_of, fetches_of, plus, prior, upper_offset}
@@ -19,8 +19,8 @@ use Rattle.flow_points.specs.PointLists.{ArePointsOf, FlowPoints}
 use Rattle.flow_points.specs.Refusals.{HasCause, IsFlowRefusal, address_of, bad_point, into_pair, number_of, too_many}
 use Rattle.flow_points.specs.declared.code_points.Point.{Point}
 use Rattle.flow_points.specs.declared.code_points.CodePoint.{CodePoint}
-use Rattle.flow_points.specs.declared.refusal.FlowRefusal.{FlowRefusal}
-use Rattle.flow_points.specs.declared.refusal.FlowRefusal.TheVariants.{TooManyPoints, IntoPair}
+use Rattle.refusals.specs.declared.flow.FlowRefusal.{FlowRefusal}
+use Rattle.refusals.specs.declared.flow.FlowRefusal.TheVariants.{TooManyPoints, IntoPair}
 use Rattle.flow_points.proofs.SamePoint.{one_point}
 use Rattle.run_paths.proofs.Fetching.{fetched_as, fetched_bytes}
 use Rattle.run_paths.proofs.Making.{code_of}

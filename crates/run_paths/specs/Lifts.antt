@@ -15,7 +15,7 @@ use Rattle.flow_points.specs.PointLists.{FlowPoints, ArePointsOf}
 use Rattle.flow_points.specs.Refusals.{IsFlowRefusal}
 use Rattle.flow_points.specs.declared.code_points.CodePoint.{CodePoint}
 use Rattle.flow_points.specs.declared.code_points.Point.{Point}
-use Rattle.flow_points.specs.declared.refusal.FlowRefusal.{FlowRefusal}
+use Rattle.refusals.specs.declared.flow.FlowRefusal.{FlowRefusal}
 use Rattle.report_text.specs.Names.{IsName}
 use Rattle.report_text.specs.declared.names.Name.{Name}
 use Rattle.affine_prog.specs.Programs.{slots_of}

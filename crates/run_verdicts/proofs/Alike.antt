@@ -5,10 +5,10 @@ use Rattle.std.specs.List.{list_any}
 use Rattle.elf_image.specs.Fetches.{fetch, fetch_length, read}
 use Rattle.elf_image.specs.Ranges.{is_in}
 use Rattle.elf_image.specs.declared.fetched.Fetched.{Fetched}
-use Rattle.rv_decode.specs.declared.instructions.Instr.{Instr}
-use Rattle.rv_decode.specs.declared.instructions.Instr.TheVariants.{Lui, Auipc, Jal, Jalr, Branch, Load, Store, Imm, Shift, Reg, Fence, Ecall, Ebreak}
-use Rattle.rv_decode.specs.declared.instructions.LoadOp.{LoadOp}
-use Rattle.rv_decode.specs.declared.instructions.LoadOp.TheVariants.{Lb, Lh, Lw, Ld, Lbu, Lhu, Lwu}
+use Rattle.rv_instr.specs.declared.Instr.{Instr}
+use Rattle.rv_instr.specs.declared.Instr.TheVariants.{Lui, Auipc, Jal, Jalr, Branch, Load, Store, Imm, Shift, Reg, Fence, Ecall, Ebreak}
+use Rattle.rv_instr.specs.declared.LoadOp.{LoadOp}
+use Rattle.rv_instr.specs.declared.LoadOp.TheVariants.{Lb, Lh, Lw, Ld, Lbu, Lhu, Lwu}
 use Rattle.rv_step.specs.Effects.{Stores, Writes, distance, written}
 use Rattle.rv_step.specs.Harts.{Hart, IsSame, fetched, x}
 use Rattle.rv_step.specs.Own.{IsOwn}

@@ -7,7 +7,7 @@ use Rattle.flow_points.specs.PointLists.{FlowPoints}
 use Rattle.flow_points.specs.declared.code_points.Point.{Point}
 use Rattle.affine_lift.proofs.Cited.{number_at}
 use Rattle.rvc_expand.specs.Lengths.{MeansWithLength}
-use Rattle.rv_decode.specs.declared.instructions.Instr.{Instr}
+use Rattle.rv_instr.specs.declared.Instr.{Instr}
 use Rattle.rv_step.specs.Harts.{Hart, fetched}
 use Rattle.rv_step.specs.Machines.{hart_of}
 use Rattle.rv_step.specs.Records.{StopsWith, breaks, calls, exits, illegal, outside}

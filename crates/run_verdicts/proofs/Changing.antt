@@ -2,8 +2,8 @@
 use Rattle.std.proofs.Common.{◌≡◌, ◌↔◌, ℕ, ◌+◌, ◌^◌, ◌<◌, pos, ◌+ℤ◌, Bool, [], Contains, Option, None, inl, inr, refl, ap, sym, ◌∙◌, arith, subst, if◌then◌else◌}
 use Rattle.std.proofs.lemmas.Bool.{cases_eq}
 use Rattle.elf_image.specs.declared.fetched.Fetched.{Fetched}
-use Rattle.rv_decode.specs.declared.instructions.Instr.{Instr}
-use Rattle.rv_decode.specs.declared.instructions.Instr.TheVariants.{Lui, Auipc, Jal, Jalr, Branch, Load, Store, Imm, Shift, Reg, Fence, Ecall, Ebreak}
+use Rattle.rv_instr.specs.declared.Instr.{Instr}
+use Rattle.rv_instr.specs.declared.Instr.TheVariants.{Lui, Auipc, Jal, Jalr, Branch, Load, Store, Imm, Shift, Reg, Fence, Ecall, Ebreak}
 use Rattle.rvc_expand.proofs.Cited.{one_meaning}
 use Rattle.rvc_expand.specs.Lengths.{MeansWithLength}
 use Rattle.rv_step.specs.Harts.{Hart, IsHart, x}

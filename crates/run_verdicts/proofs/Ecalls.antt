@@ -2,7 +2,7 @@
 use Rattle.std.proofs.Common.{◌≡◌, ℕ, Bool, true, false, cond, List, [], ◌∷◌, find, Contains, Some, refl, ap, sym, ◌∙◌, arith}
 use Rattle.std.proofs.lemmas.List.Elements.{Contains-append_right}
 use Rattle.elf_image.specs.declared.image.Image.{Image}
-use Rattle.rv_decode.specs.declared.instructions.Instr.TheVariants.{Ecall}
+use Rattle.rv_instr.specs.declared.Instr.TheVariants.{Ecall}
 use Rattle.flow_points.specs.Flows.{flow_of, next}
 use Rattle.flow_points.specs.Walks.{point}
 use Rattle.flow_points.specs.declared.code_points.CodePoint.{CodePoint}

@@ -3,8 +3,8 @@ use Rattle.std.proofs.Common.{◌≡◌, ℕ, ◌^◌, ◌<◌, Bool, List, slic
 use Rattle.std.specs.Option.{unwrap_or}
 use Rattle.elf_image.specs.Fetches.{read}
 use Rattle.elf_image.specs.declared.fetched.Fetched.{Fetched}
-use Rattle.rv_decode.specs.declared.instructions.Instr.{Instr}
-use Rattle.rv_decode.specs.declared.instructions.Instr.TheVariants.{Store}
+use Rattle.rv_instr.specs.declared.Instr.{Instr}
+use Rattle.rv_instr.specs.declared.Instr.TheVariants.{Store}
 use Rattle.rv_step.specs.Harts.{Hart, IsSame, fetched}
 use Rattle.rv_step.specs.Machines.{hart_of, made_of}
 use Rattle.rv_step.specs.Records.{IsClosing, IsRecord, store_of}

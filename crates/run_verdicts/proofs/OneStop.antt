@@ -1,8 +1,8 @@
 -- Why a machine stops is one.
 use Rattle.std.proofs.Common.{◌≡◌, ◌≢◌, ℕ, ◌^◌, ◌<◌, List, slice_index, None, ap, sym, ◌∙◌, subst}
 use Rattle.elf_image.specs.declared.fetched.Fetched.{Fetched}
-use Rattle.rv_decode.specs.declared.instructions.Instr.{Instr}
-use Rattle.rv_decode.specs.declared.instructions.Instr.TheVariants.{Ecall, Ebreak}
+use Rattle.rv_instr.specs.declared.Instr.{Instr}
+use Rattle.rv_instr.specs.declared.Instr.TheVariants.{Ecall, Ebreak}
 use Rattle.rvc_expand.specs.Lengths.{MeansWithLength}
 use Rattle.rvc_expand.proofs.Cited.{one_meaning}
 use Rattle.rv_step.specs.Harts.{Hart, IsSame, fetched, x}

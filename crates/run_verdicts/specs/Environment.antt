@@ -6,7 +6,7 @@
 use Rattle.std.specs.Prelude.{◌≡◌, ℕ, ◌^◌, ◌<◌, List, Some}
 use Rattle.elf_image.specs.declared.image.Image.{Image}
 use Rattle.flow_points.specs.declared.code_points.CodePoint.{CodePoint}
-use Rattle.rv_decode.specs.declared.instructions.Instr.TheVariants.{Ecall}
+use Rattle.rv_instr.specs.declared.Instr.TheVariants.{Ecall}
 use Rattle.rv_step.specs.Effects.{Calls}
 use Rattle.rv_step.specs.Harts.{Hart}
 use Rattle.run_paths.specs.Lifts.{Lift, IsLiftOf}

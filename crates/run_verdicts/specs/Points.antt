@@ -12,7 +12,7 @@ use Rattle.elf_image.specs.declared.image.Image.{Image}
 use Rattle.flow_points.specs.PointLists.{ArePointsOf, FlowPoints}
 use Rattle.flow_points.specs.Refusals.{IsFlowRefusal}
 use Rattle.flow_points.specs.declared.code_points.CodePoint.{CodePoint}
-use Rattle.flow_points.specs.declared.refusal.FlowRefusal.{FlowRefusal}
+use Rattle.refusals.specs.declared.flow.FlowRefusal.{FlowRefusal}
 use Rattle.rv_step.specs.Machines.{hart_of}
 use Rattle.rv_step.specs.Records.{StopsWith}
 use Rattle.rv_step.specs.declared.machine.Machine.{Machine}

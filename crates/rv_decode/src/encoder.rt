@@ -3,9 +3,10 @@
 ghost use Rattle.std.specs.Prelude.{◌≡◌, ℕ, ◌<◌, ◌↔◌, IsTrue};
 ghost use Rattle.rv_decode.specs.Instructions.{IsOffset, IsWellFormed, IsWithin, Means};
 
-use crate::instructions::Instr;
 use crate::layouts::{layout_b, layout_i, layout_j, layout_r, layout_s, layout_shift, layout_u};
+use crate::operations::{branch_funct3, imm_row, load_funct3, reg_row, shift_row, store_funct3};
 use crate::rows::{AUIPC, BRANCH, EBREAK, ECALL, JAL, JALR, LOAD, LUI, MISC_MEM, STORE};
+use rv_instr::Instr;
 
 /// Whether each field of the instruction is in the range that its layout gives it.
 pub fn well_formed(instr: &Instr) -> bool
@@ -20,7 +21,7 @@ pub fn well_formed(instr: &Instr) -> bool
         Instr::Load { rd, rs1, imm, .. } => are_registers(rd, rs1) && is_within(imm, 1 << 11),
         Instr::Store { rs1, rs2, imm, .. } => are_registers(rs1, rs2) && is_within(imm, 1 << 11),
         Instr::Imm { rd, rs1, imm, .. } => are_registers(rd, rs1) && is_within(imm, 1 << 11),
-        Instr::Shift { op, rd, rs1, by } => are_registers(rd, rs1) && by < 1 << op.row().width,
+        Instr::Shift { op, rd, rs1, by } => are_registers(rd, rs1) && by < 1 << shift_row(op).width,
         Instr::Reg { rd, rs1, rs2, .. } => are_registers(rd, rs1) && is_register(rs2),
         Instr::Fence { rd, rs1, imm } => are_registers(rd, rs1) && is_within(imm, 1 << 11),
         Instr::Ecall | Instr::Ebreak => true,
@@ -38,16 +39,16 @@ pub fn encode(instr: &Instr) -> u32
         Instr::Auipc { rd, imm } => layout_u(imm, rd, AUIPC),
         Instr::Jal { rd, off } => layout_j(off, rd, JAL),
         Instr::Jalr { rd, rs1, imm } => layout_i(imm, rs1, 0, rd, JALR),
-        Instr::Branch { op, rs1, rs2, off } => layout_b(off, rs2, rs1, op.funct3(), BRANCH),
-        Instr::Load { op, rd, rs1, imm } => layout_i(imm, rs1, op.funct3(), rd, LOAD),
-        Instr::Store { op, rs1, rs2, imm } => layout_s(imm, rs2, rs1, op.funct3(), STORE),
+        Instr::Branch { op, rs1, rs2, off } => layout_b(off, rs2, rs1, branch_funct3(op), BRANCH),
+        Instr::Load { op, rd, rs1, imm } => layout_i(imm, rs1, load_funct3(op), rd, LOAD),
+        Instr::Store { op, rs1, rs2, imm } => layout_s(imm, rs2, rs1, store_funct3(op), STORE),
         Instr::Imm { op, rd, rs1, imm } => {
-            let row = op.row();
+            let row = imm_row(op);
             layout_i(imm, rs1, row.funct3, rd, row.opcode)
         }
-        Instr::Shift { op, rd, rs1, by } => layout_shift(op.row(), by, rs1, rd),
+        Instr::Shift { op, rd, rs1, by } => layout_shift(shift_row(op), by, rs1, rd),
         Instr::Reg { op, rd, rs1, rs2 } => {
-            let row = op.row();
+            let row = reg_row(op);
             layout_r(row.funct7, rs2, rs1, row.funct3, rd, row.opcode)
         }
         Instr::Fence { rd, rs1, imm } => layout_i(imm, rs1, 0, rd, MISC_MEM),

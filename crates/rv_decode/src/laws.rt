@@ -7,7 +7,7 @@ ghost use Rattle.rv_decode.specs.Registers.{is_name_byte, name_of_register, regi
 
 use crate::decoder::decode;
 use crate::encoder::encode;
-use crate::instructions::Instr;
+use rv_instr::Instr;
 
 /// A word has at most one instruction, an instruction has at most one word, and the fields of an
 /// instruction that has a word are in range.

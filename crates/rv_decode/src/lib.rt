@@ -13,7 +13,6 @@
 mod decoder;
 mod encoder;
 mod fields;
-mod instructions;
 pub mod laws;
 mod layouts;
 mod operations;
@@ -22,8 +21,8 @@ mod rows;
 
 pub use decoder::decode;
 pub use encoder::{encode, well_formed};
-pub use instructions::{BranchOp, ImmOp, Instr, LoadOp, RegOp, ShiftOp, StoreOp};
 pub use registers::{read_register, register_name};
+pub use rv_instr::{BranchOp, ImmOp, Instr, LoadOp, RegOp, ShiftOp, StoreOp};
 
 #[cfg(test)]
 mod tests;

@@ -2,8 +2,8 @@
 -- step.
 use Rattle.std.proofs.Common.{◌≡◌, ℕ, ◌+◌, ◌==◌, None, Some, pos, sym, ◌∙◌, subst, arith, if◌then◌else◌, true, false, refl}
 use Rattle.elf_image.specs.declared.fetched.Fetched.{Fetched}
-use Rattle.rv_decode.specs.declared.instructions.Instr.{Instr}
-use Rattle.rv_decode.specs.declared.instructions.Instr.TheVariants.{Lui, Auipc, Jal, Jalr, Branch, Load, Store, Imm, Shift, Reg, Fence, Ecall, Ebreak}
+use Rattle.rv_instr.specs.declared.Instr.{Instr}
+use Rattle.rv_instr.specs.declared.Instr.TheVariants.{Lui, Auipc, Jal, Jalr, Branch, Load, Store, Imm, Shift, Reg, Fence, Ecall, Ebreak}
 use Rattle.rvc_expand.specs.Lengths.{MeansWithLength}
 use Rattle.rvc_expand.proofs.Cited.{one_meaning}
 use Rattle.rv_step.specs.Words.{word}

@@ -4,14 +4,14 @@ use Rattle.std.specs.Prelude.{if◌then◌else◌}
 use Rattle.std.proofs.Math.Nat.{div-le_self, mod-le, mul-le-mul}
 use Rattle.std.proofs.lemmas.Nat.{and_le_l, or_lt, xor_lt, shr_le, pow-add}
 use Rattle.elf_image.specs.Fetches.{next_byte, read}
-use Rattle.rv_decode.specs.declared.instructions.ImmOp.{ImmOp}
-use Rattle.rv_decode.specs.declared.instructions.ImmOp.TheVariants.{Addi, Slti, Sltiu, Xori, Ori, Andi, Addiw}
-use Rattle.rv_decode.specs.declared.instructions.ShiftOp.{ShiftOp}
-use Rattle.rv_decode.specs.declared.instructions.ShiftOp.TheVariants.{Slli, Srli, Srai, Slliw, Srliw, Sraiw}
-use Rattle.rv_decode.specs.declared.instructions.RegOp.{RegOp}
-use Rattle.rv_decode.specs.declared.instructions.RegOp.TheVariants.{Add, Sub, Sll, Slt, Sltu, Xor, Srl, Sra, Or, And, Mul, Mulh, Mulhsu, Mulhu, Div, Divu, Rem, Remu, Addw, Subw, Sllw, Srlw, Sraw, Mulw, Divw, Divuw, Remw, Remuw}
-use Rattle.rv_decode.specs.declared.instructions.LoadOp.{LoadOp}
-use Rattle.rv_decode.specs.declared.instructions.LoadOp.TheVariants.{Lb, Lh, Lw, Ld, Lbu, Lhu, Lwu}
+use Rattle.rv_instr.specs.declared.ImmOp.{ImmOp}
+use Rattle.rv_instr.specs.declared.ImmOp.TheVariants.{Addi, Slti, Sltiu, Xori, Ori, Andi, Addiw}
+use Rattle.rv_instr.specs.declared.ShiftOp.{ShiftOp}
+use Rattle.rv_instr.specs.declared.ShiftOp.TheVariants.{Slli, Srli, Srai, Slliw, Srliw, Sraiw}
+use Rattle.rv_instr.specs.declared.RegOp.{RegOp}
+use Rattle.rv_instr.specs.declared.RegOp.TheVariants.{Add, Sub, Sll, Slt, Sltu, Xor, Srl, Sra, Or, And, Mul, Mulh, Mulhsu, Mulhu, Div, Divu, Rem, Remu, Addw, Subw, Sllw, Srlw, Sraw, Mulw, Divw, Divuw, Remw, Remuw}
+use Rattle.rv_instr.specs.declared.LoadOp.{LoadOp}
+use Rattle.rv_instr.specs.declared.LoadOp.TheVariants.{Lb, Lh, Lw, Ld, Lbu, Lhu, Lwu}
 use Rattle.rv_step.specs.Words.{word, low, test}
 use Rattle.rv_step.specs.Results.{all_ones, reg_result, imm_result, shift_result}
 use Rattle.rv_step.specs.Steps.{loaded}

@@ -2,8 +2,8 @@
 --
 --   IsStore instr   it is a store
 --   IsOwn instr     it is neither ECALL, which asks the environment, nor EBREAK, which has no step
-use Rattle.rv_decode.specs.declared.instructions.Instr.{Instr}
-use Rattle.rv_decode.specs.declared.instructions.Instr.TheVariants.{Store, Ecall, Ebreak}
+use Rattle.rv_instr.specs.declared.Instr.{Instr}
+use Rattle.rv_instr.specs.declared.Instr.TheVariants.{Store, Ecall, Ebreak}
 
 abbrev pub IsStore : Instr → Type 0
 IsStore (Store op rs1 rs2 imm) = Unit {0}

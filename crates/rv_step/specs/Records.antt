@@ -12,9 +12,9 @@ use Rattle.std.specs.Prelude.{◌≡◌, ◌≢◌, ℕ, ℤ, pos, ◌+ℤ◌, �
 use Rattle.std.specs.Option.{unwrap_or}
 use Rattle.elf_image.specs.Fetches.{read}
 use Rattle.elf_image.specs.declared.fetched.Fetched.{Fetched}
-use Rattle.rv_decode.specs.declared.instructions.Instr.{Instr}
-use Rattle.rv_decode.specs.declared.instructions.Instr.TheVariants.{Store, Ecall, Ebreak}
-use Rattle.rv_decode.specs.declared.instructions.StoreOp.{StoreOp}
+use Rattle.rv_instr.specs.declared.Instr.{Instr}
+use Rattle.rv_instr.specs.declared.Instr.TheVariants.{Store, Ecall, Ebreak}
+use Rattle.rv_instr.specs.declared.StoreOp.{StoreOp}
 use Rattle.rvc_expand.specs.Lengths.{MeansWithLength}
 use Rattle.rv_step.specs.Words.{word}
 use Rattle.rv_step.specs.Harts.{Hart, x, fetched}

@@ -13,12 +13,12 @@ use Rattle.std.specs.Prelude.{◌≡◌, ℕ, ◌+◌, ◌-◌, ◌%◌, pos, �
 use Rattle.std.specs.Int.{cast_signed, w8, w16}
 use Rattle.elf_image.specs.Fetches.{read}
 use Rattle.elf_image.specs.declared.fetched.Fetched.{Fetched}
-use Rattle.rv_decode.specs.declared.instructions.Instr.{Instr}
-use Rattle.rv_decode.specs.declared.instructions.Instr.TheVariants.{Lui, Auipc, Jal, Jalr, Branch, Load, Store, Imm, Shift, Reg, Fence, Ecall, Ebreak}
-use Rattle.rv_decode.specs.declared.instructions.LoadOp.{LoadOp}
-use Rattle.rv_decode.specs.declared.instructions.LoadOp.TheVariants.{Lb, Lh, Lw, Ld, Lbu, Lhu, Lwu}
-use Rattle.rv_decode.specs.declared.instructions.StoreOp.{StoreOp}
-use Rattle.rv_decode.specs.declared.instructions.StoreOp.TheVariants.{Sb, Sh, Sw, Sd}
+use Rattle.rv_instr.specs.declared.Instr.{Instr}
+use Rattle.rv_instr.specs.declared.Instr.TheVariants.{Lui, Auipc, Jal, Jalr, Branch, Load, Store, Imm, Shift, Reg, Fence, Ecall, Ebreak}
+use Rattle.rv_instr.specs.declared.LoadOp.{LoadOp}
+use Rattle.rv_instr.specs.declared.LoadOp.TheVariants.{Lb, Lh, Lw, Ld, Lbu, Lhu, Lwu}
+use Rattle.rv_instr.specs.declared.StoreOp.{StoreOp}
+use Rattle.rv_instr.specs.declared.StoreOp.TheVariants.{Sb, Sh, Sw, Sd}
 use Rattle.rvc_expand.specs.Lengths.{MeansWithLength}
 use Rattle.rv_step.specs.Words.{word, sign_extended}
 use Rattle.rv_step.specs.Results.{upper, reg_result, imm_result, shift_result, is_taken}

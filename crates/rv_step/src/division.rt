@@ -1,7 +1,7 @@
 //! Quotients and remainders: by zero, all bits ones and the dividend.
 
 ghost use Rattle.std.specs.Prelude.{◌≡◌};
-ghost use Rattle.rv_decode.specs.declared.instructions.RegOp.TheVariants.{Div, Divu, Rem, Remu, Divw, Divuw, Remw, Remuw};
+ghost use Rattle.rv_instr.specs.declared.RegOp.TheVariants.{Div, Divu, Rem, Remu, Divw, Divuw, Remw, Remuw};
 ghost use Rattle.rv_step.specs.Results.{reg_result};
 
 use crate::words::{extended, low, signed_low};

@@ -1,7 +1,7 @@
 //! The high words of products.
 
 ghost use Rattle.std.specs.Prelude.{◌≡◌};
-ghost use Rattle.rv_decode.specs.declared.instructions.RegOp.TheVariants.{Mulh, Mulhsu, Mulhu};
+ghost use Rattle.rv_instr.specs.declared.RegOp.TheVariants.{Mulh, Mulhsu, Mulhu};
 ghost use Rattle.rv_step.specs.Words.{halved, signed, word};
 ghost use Rattle.rv_step.specs.Results.{reg_result};
 

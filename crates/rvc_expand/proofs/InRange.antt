@@ -3,7 +3,7 @@ use Rattle.std.proofs.Common.{◌≡◌, ℕ, ◌+◌, ◌-◌, ◌*◌, ◌%◌
 use Rattle.std.proofs.lemmas.Int.{ints}
 use Rattle.std.specs.Prelude.{◌-ℤ◌, unsigned_abs}
 use Rattle.rv_decode.specs.Instructions.{IsOffset, IsWellFormed, IsWithin}
-use Rattle.rv_decode.specs.declared.instructions.Instr.{Instr}
+use Rattle.rv_instr.specs.declared.Instr.{Instr}
 use Rattle.rv_decode.proofs.Table.{in_range}
 use Rattle.rvc_expand.specs.Halves.{in_bits, signed}
 use Rattle.rvc_expand.specs.Immediates.{addi4spn_bits, word_bits, double_bits, six_bits, addi16sp_bits, jump_bits, branch_bits, lwsp_bits, ldsp_bits, swsp_bits, sdsp_bits}

@@ -1,6 +1,6 @@
 -- A half has one instruction, and so has a word with its length.
 use Rattle.std.proofs.Common.{◌≡◌, ℕ, arith}
-use Rattle.rv_decode.specs.declared.instructions.Instr.{Instr}
+use Rattle.rv_instr.specs.declared.Instr.{Instr}
 use Rattle.rv_decode.proofs.Table.{one_instruction}
 use Rattle.rvc_expand.specs.Lengths.{MeansWithLength}
 use Rattle.rvc_expand.specs.Lengths.MeansWithLength.{whole, half}

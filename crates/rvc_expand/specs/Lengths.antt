@@ -7,7 +7,7 @@
 use Rattle.std.specs.Prelude.{◌≡◌, ℕ, ◌^◌, ◌<◌, ◌==◌, if◌then◌else◌}
 use Rattle.rv_decode.specs.Layouts.{bits_at}
 use Rattle.rv_decode.specs.Instructions.{Means}
-use Rattle.rv_decode.specs.declared.instructions.Instr.{Instr}
+use Rattle.rv_instr.specs.declared.Instr.{Instr}
 use Rattle.rvc_expand.specs.Rows.{Expands}
 
 abbrev pub length_of : ℕ → ℕ

@@ -7,14 +7,14 @@
 -- Register 1 is ra and register 2 is sp.
 use Rattle.std.specs.Prelude.{◌≡◌, ◌≢◌, ℕ, pos}
 use Rattle.rv_decode.specs.Layouts.{bits_at}
-use Rattle.rv_decode.specs.declared.instructions.Instr.{Instr}
-use Rattle.rv_decode.specs.declared.instructions.Instr.TheVariants.{Lui, Jal, Jalr, Branch, Load, Store, Imm, Shift, Reg, Ebreak}
-use Rattle.rv_decode.specs.declared.instructions.BranchOp.TheVariants.{Beq, Bne}
-use Rattle.rv_decode.specs.declared.instructions.LoadOp.TheVariants.{Lw, Ld}
-use Rattle.rv_decode.specs.declared.instructions.StoreOp.TheVariants.{Sw, Sd}
-use Rattle.rv_decode.specs.declared.instructions.ImmOp.TheVariants.{Addi, Andi, Addiw}
-use Rattle.rv_decode.specs.declared.instructions.ShiftOp.TheVariants.{Slli, Srli, Srai}
-use Rattle.rv_decode.specs.declared.instructions.RegOp.TheVariants.{Add, Sub, Xor, Or, And, Addw, Subw}
+use Rattle.rv_instr.specs.declared.Instr.{Instr}
+use Rattle.rv_instr.specs.declared.Instr.TheVariants.{Lui, Jal, Jalr, Branch, Load, Store, Imm, Shift, Reg, Ebreak}
+use Rattle.rv_instr.specs.declared.BranchOp.TheVariants.{Beq, Bne}
+use Rattle.rv_instr.specs.declared.LoadOp.TheVariants.{Lw, Ld}
+use Rattle.rv_instr.specs.declared.StoreOp.TheVariants.{Sw, Sd}
+use Rattle.rv_instr.specs.declared.ImmOp.TheVariants.{Addi, Andi, Addiw}
+use Rattle.rv_instr.specs.declared.ShiftOp.TheVariants.{Slli, Srli, Srai}
+use Rattle.rv_instr.specs.declared.RegOp.TheVariants.{Add, Sub, Xor, Or, And, Addw, Subw}
 use Rattle.rvc_expand.specs.Halves.{rd_field, rs2_field, short_register, signed, in_bits, IsIn}
 use Rattle.rvc_expand.specs.Immediates.{addi4spn_bits, word_bits, double_bits, six_bits, addi16sp_bits, jump_bits, branch_bits, lwsp_bits, ldsp_bits, swsp_bits, sdsp_bits}
 

@@ -1,7 +1,7 @@
 //! What follows from the tables.
 
 ghost use Rattle.std.specs.Prelude.{◌≡◌, ℕ};
-ghost use Rattle.rv_decode.specs.declared.instructions.Instr.{Instr};
+ghost use Rattle.rv_instr.specs.declared.Instr.{Instr};
 ghost use Rattle.rv_decode.specs.Instructions.{IsWellFormed};
 ghost use Rattle.rvc_expand.specs.Lengths.{MeansWithLength};
 

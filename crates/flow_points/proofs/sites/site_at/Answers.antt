@@ -1,6 +1,6 @@
 use Rattle.std.proofs.Common.{rules, ◌≡◌, ℕ, Some, refl, sym, ap, subst, ◌∙◌}
 use Rattle.elf_image.specs.Images.{code_at}
-use Rattle.rv_decode.specs.declared.instructions.Instr.{Instr}
+use Rattle.rv_instr.specs.declared.Instr.{Instr}
 use Rattle.rvc_expand.specs.Lengths.{MeansWithLength}
 use Rattle.flow_points.specs.Flows.{HasInstr, HasUpper, base_of, fetches_of, flow_of, unknown}
 use Rattle.flow_points.proofs.SiteFacts.{bad_site, good_site, no_half, unflowing_site}

@@ -1,6 +1,6 @@
 -- A word of two bytes has no row of the table of instruction words.
 use Rattle.std.proofs.Common.{◌≡◌, ℕ, Option, Some, arith}
-use Rattle.rv_decode.specs.declared.instructions.Instr.{Instr}
+use Rattle.rv_instr.specs.declared.Instr.{Instr}
 use Rattle.rvc_expand.specs.Rows.{Expands}
 use Rattle.rvc_expand.specs.Lengths.{MeansWithLength}
 use Rattle.rvc_expand.specs.Lengths.MeansWithLength.{whole, half}

@@ -1,7 +1,7 @@
 //! Why a track list is refused.
 
 ghost use Rattle.std.specs.Prelude.{◌≡◌};
-ghost use Rattle.affine_lift.specs.declared.refusal.TrackRefusal.TheVariants.{Memory};
+ghost use Rattle.refusals.specs.declared.track.TrackRefusal.TheVariants.{Memory};
 
 use std::alloc::AllocError;
 use thiserror::Error;

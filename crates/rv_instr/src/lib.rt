@@ -1,5 +1,12 @@
 //! The instructions of RV64I and of the extension M: a variant for each form, and an operation for each
 //! row of the table.
+//!
+//! Here are the types alone. Which words stand for them is told by `rv_decode`, which hands them on.
+//!
+//! ```text
+//! Instr::Jalr { rd: 1, rs1: 1, imm: 12 } // jalr ra,12(ra)
+//! ```
+#![tactic(auto)]
 
 /// An instruction with its fields.
 ///
