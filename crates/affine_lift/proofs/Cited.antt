@@ -2,6 +2,6 @@
 pub use Rattle.affine_lift.proofs.FirstPlaces.{position_is, position_none, position_within}
 pub use Rattle.affine_lift.proofs.Nodes.{node_is, number_at}
 pub use Rattle.affine_lift.proofs.PositionBits.{has_positions}
-pub use Rattle.affine_lift.proofs.Procedures.{code_there, entry_there, owner_there}
+pub use Rattle.affine_lift.proofs.Procedures.{code_there, entry_there, number_is, owner_there}
 pub use Rattle.affine_lift.proofs.Owners.{number_small, proc_at}
 pub use Rattle.affine_lift.proofs.EdgesFormed.{slots_at}

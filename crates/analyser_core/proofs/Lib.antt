@@ -3,6 +3,7 @@ mod PointsTold
 mod LinesRead
 mod WordsTold
 mod Worked
+mod GivenBack
 mod RunsTold
 mod NodeStates
 mod Counted

@@ -1,5 +1,5 @@
 -- What a report says of runs of the machine.
-use Rattle.std.proofs.Common.{◌≡◌, ◌≢◌, ℕ, ◌≤◌, List, All, AllPairs, length, slice_get, get_or, Some, inl, inr, refl, sym, ◌∙◌, arith, subst}
+use Rattle.std.proofs.Common.{◌≡◌, ◌≢◌, ℕ, ◌≤◌, Bool, List, All, AllPairs, length, slice_get, get_or, Some, inl, inr, refl, sym, ◌∙◌, arith, subst}
 use Rattle.std.proofs.lemmas.Bool.{cases_lt}
 use Rattle.std.proofs.lemmas.List.Elements.{All-contains_itself}
 use Rattle.std.proofs.lemmas.Option.{get_or_from_slice_get, slice_get-get_or, slice_get_within}
@@ -17,14 +17,16 @@ use Rattle.rv_step.specs.Harts.{Hart}
 use Rattle.run_paths.specs.Lifts.{AreDistinct, Lift, node}
 use Rattle.run_paths.specs.Activations.{state_of}
 use Rattle.run_paths.specs.Discipline.{IsRunTo, KeepsDiscipline}
-use Rattle.run_paths.specs.Relations.{ObeysRelations}
+use Rattle.run_paths.specs.Relations.{KeepsDisciplineBut, ObeysRelations}
 use Rattle.run_paths.proofs.Certifying.{restores}
 use Rattle.run_paths.proofs.Following.{follows}
 use Rattle.run_paths.proofs.Lifted.{has_code}
 use Rattle.run_paths.proofs.Obeying.{obeys}
-use Rattle.analyser_core.specs.MachineRuns.{IsReportOfLift, IsToldAt, RowsAreZero, TellsOfRuns}
+use Rattle.run_paths.proofs.Sparing.{spare}
+use Rattle.analyser_core.specs.MachineRuns.{AreGivenBack, IsReportOfLift, IsToldAt, RowsAreZero, TellsOfRuns}
 use Rattle.analyser_core.specs.Reports.{IsReportOver, TellsState}
 use Rattle.analyser_core.specs.declared.cert_line.CertLine.{CertLine}
+use Rattle.analyser_core.proofs.GivenBack.{spared_by_words}
 
 -- names of which no two are equal stand at one place each
 one_place : (names : List Name) → AllPairs (λ a b. a ≢ b) names → AreDistinct names
@@ -60,12 +62,17 @@ module _ (image : Image) (lift : Lift) (report : Report) (certs : List CertLine)
           let rows_hold = subst (TellsState lift.program u) state told.state in
           obeyed.zero (get_or rows k d) (subst (λ (v : ℕ). Holds lift.program v (get_or rows k d)) (sym number) (rows_hold.1.inside (get_or rows k d) (All-contains_itself rows k d below)))
 
-  pub told : (run : ℕ → Hart) (n : ℕ) → IsRunTo image run n → KeepsDiscipline lift run n → (i : ℕ) → i ≤ n → IsToldAt lift report run i
-  told run n r keeps i low = record {
+  told_whole : (run : ℕ → Hart) (n : ℕ) → IsRunTo image run n → KeepsDiscipline lift run n → (i : ℕ) → i ≤ n → IsToldAt lift report run i
+  told_whole run n r keeps i low = record {
     follows = follows image lift of_lift.is_lift run n r keeps i low;
     rows = rows_zero run i (obeys image lift of_lift.is_lift run n r keeps i low);
     restored = λ at is_at flow. restores image lift of_lift.is_lift run n r keeps i low at is_at flow;
   }
+
+  pub told : (spared : ℕ → Bool) (run : ℕ → Hart) (n : ℕ) → AreGivenBack report spared → IsRunTo image run n
+      → KeepsDisciplineBut lift spared run n → (i : ℕ) → i ≤ n → IsToldAt lift report run i
+  told spared run n back r keeps =
+      told_whole run n r (spare image lift of_lift.is_lift spared (spared_by_words image lift report certs of_lift spared back) run n r keeps)
 
 pub tells_of_runs : (bytes list : List ℕ) (report : Report) (certs : List CertLine) → IsReportOver bytes list report certs → TellsOfRuns bytes list report certs
 tells_of_runs bytes list report certs over =

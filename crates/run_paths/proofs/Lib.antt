@@ -27,4 +27,5 @@ pub mod Running
 pub mod Following
 pub mod Certifying
 pub mod Sparing
+pub mod Weakening
 pub mod Obeying

@@ -15,6 +15,7 @@
 --   RunsObey, RunsRestoreCertified, CertificatesSpare
 --                                 a run that keeps the discipline obeys the relations, and restores certified registers;
 --                                 where the set has spared registers alone, to keep the rest of it is to keep it whole
+--   DisciplinesWeaken             who keeps the discipline keeps it but for any set of registers
 use Rattle.std.specs.Prelude.{◌≡◌, ◌≢◌, ℕ, suc, ◌<◌, ◌≤◌, Bool, true, false, List, ◌∷◌, Contains, slice_get, slice_index, Option, None, Some}
 use Rattle.elf_image.specs.declared.image.Image.{Image}
 use Rattle.word_rows.specs.Rows.{dot}
@@ -88,3 +89,7 @@ abbrev pub CertificatesSpare : Type 0
 CertificatesSpare =
     (image : Image) (lift : Lift) (spared : ℕ → Bool) (run : ℕ → Hart) (n : ℕ) → IsLiftOf image lift → IsRunTo image run n
     → ((r : ℕ) → spared r ≡ true → IsSpared lift r) → KeepsDisciplineBut lift spared run n → KeepsDiscipline lift run n
+
+abbrev pub DisciplinesWeaken : Type 0
+DisciplinesWeaken =
+    (lift : Lift) (spared : ℕ → Bool) (run : ℕ → Hart) (n : ℕ) → KeepsDiscipline lift run n → KeepsDisciplineBut lift spared run n

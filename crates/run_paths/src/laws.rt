@@ -2,7 +2,7 @@
 
 ghost use Rattle.run_paths.specs.Follows.{RunsFollow};
 ghost use Rattle.run_paths.specs.Maps.{MapsAct};
-ghost use Rattle.run_paths.specs.Relations.{CertificatesSpare, RunsObey, RunsRestoreCertified};
+ghost use Rattle.run_paths.specs.Relations.{CertificatesSpare, DisciplinesWeaken, RunsObey, RunsRestoreCertified};
 
 /// What the maps of openings, of steps and of calls make of states.
 pub fn maps_act()
@@ -27,7 +27,8 @@ pub fn certified_registers_are_restored()
 {}
 
 /// Of registers that are tracked and certified in each procedure the discipline asks nothing at a return: a run that keeps
-/// the rest of it keeps it whole.
+/// the rest of it keeps it whole; and to keep it whole is to keep the rest of it.
 pub fn certificates_spare()
-    ensures { CertificatesSpare }
+    ensures spare { CertificatesSpare }
+    ensures weaken { DisciplinesWeaken }
 {}
