@@ -29,7 +29,7 @@ pub enum Flow {
 
 /// A point with the instruction word at its address, the word's length in bytes, 2 or 4, its instruction
 /// and the instruction's flow.
-#[derive(Clone, Copy, Debug, PartialEq, Eq)]
+#[derive(Clone, Copy)]
 pub struct CodePoint {
     pub point: Point,
     pub word: u32,
@@ -40,7 +40,7 @@ pub struct CodePoint {
 
 /// What there is at a point: its code or the cause that makes it bad, and whether it is the second half
 /// of a pair.
-#[derive(Clone, Copy, Debug)]
+#[derive(Clone, Copy)]
 pub(crate) struct Site {
     pub code: Result<CodePoint, FlowRefusal>,
     pub ends_pair: bool,

@@ -12,7 +12,7 @@ use std::marker::Model;
 
 /// The points of an image, ascending by procedure and then by address, each with its code, and the
 /// procedures, ascending.
-#[derive(Debug, Drop)]
+#[derive(Drop)]
 pub struct Points {
     entry: u64,
     points: Items<CodePoint>,

@@ -8,7 +8,7 @@ use numeral_read::{read_dec, read_hex};
 use report_text::CertWord;
 
 /// A line that is no relation's.
-#[derive(Clone, Copy, Debug)]
+#[derive(Clone, Copy)]
 pub enum Line<'a> {
     /// A procedure's, with its address.
     Proc(u64),

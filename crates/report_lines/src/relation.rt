@@ -15,7 +15,7 @@ use report_text::Name;
 use word_rows::Row;
 
 /// What the line of a relation tells.
-#[derive(Clone, Copy, Debug)]
+#[derive(Clone, Copy)]
 pub enum Relation {
     /// The row with its terms and its constant.
     Row(Row<17>),

@@ -14,7 +14,7 @@ use report_text::Name;
 use word_rows::Row;
 
 /// What the terms so far tell.
-#[derive(Clone, Copy, Debug)]
+#[derive(Clone, Copy)]
 pub enum Sum {
     /// Their row, and the position behind the last one's.
     Rising { row: Row<17>, next: usize },

@@ -8,7 +8,7 @@ use crate::cutting::cut_at;
 use numeral_read::read_dec;
 
 /// A word behind the lead: a multiple of a name, or a constant.
-#[derive(Clone, Copy, Debug)]
+#[derive(Clone, Copy)]
 pub enum Word<'a> {
     Multiple(u64, &'a [u8]),
     Constant(u64),

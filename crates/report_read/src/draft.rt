@@ -5,7 +5,7 @@ use sqlite_items::Items;
 use word_rows::Row;
 
 /// Where a line stands, by the lines before it.
-#[derive(Debug, Drop)]
+#[derive(Drop)]
 pub enum Place {
     /// Behind the tracked names.
     Top,
@@ -37,7 +37,7 @@ pub enum Place {
 }
 
 /// A report as far as it is read.
-#[derive(Debug, Drop)]
+#[derive(Drop)]
 pub struct Draft {
     pub version: u8,
     pub tracked: Tracked,
