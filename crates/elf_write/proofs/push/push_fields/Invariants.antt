@@ -1,7 +1,7 @@
 -- What is written and what stands for the fields to come is the whole.
 use Rattle.std.proofs.Common.{◌≡◌, ◌++◌, drop}
-use Rattle.gen_elf.specs.Generated.{fields_text}
-use Rattle.gen_elf.proofs.headers.push_fields.Given as goal
+use Rattle.elf_write.specs.Headers.{fields_text}
+use Rattle.elf_write.proofs.push.push_fields.Given as goal
 
 abbrev pub invariant-loop-field : goal.invariant-loop-field
 invariant-loop-field l =
