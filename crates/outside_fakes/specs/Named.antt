@@ -8,7 +8,7 @@
 use Rattle.std.specs.Prelude.{ℕ, Bool, List, [], ◌∷◌, Option, find, option_map, bytes_eq, string_bytes, if◌then◌else◌}
 use Rattle.std.specs.Option.{option_map_or}
 use Rattle.outside.specs.Counts.{one_more}
-use Rattle.outside.specs.declared.mem_file.MemFile.{MemFile}
+use Rattle.outside_fakes.specs.declared.mem_file.MemFile.{MemFile}
 
 abbrev pub is_named : List ℕ → MemFile → Bool
 is_named name file = bytes_eq (string_bytes file.name) name

@@ -1,9 +1,9 @@
 use Rattle.std.proofs.Common.{◌≡◌, Some, None, position, arith, sym}
 use Rattle.std.proofs.lemmas.Bool.{false≢true}
-use Rattle.outside.specs.Named.{is_named}
-use Rattle.outside.proofs.NamedFiles.{absent, present, recounted, counts_one}
-use Rattle.outside.proofs.CountedFiles.{counts_none, counts_first}
-use Rattle.outside.proofs.mem_files.MemFilesFiles.read.Goals as goal
+use Rattle.outside_fakes.specs.Named.{is_named}
+use Rattle.outside_fakes.proofs.NamedFiles.{absent, present, recounted, counts_one}
+use Rattle.outside_fakes.proofs.CountedFiles.{counts_none, counts_first}
+use Rattle.outside_fakes.proofs.mem_files.MemFilesFiles.read.Goals as goal
 
 pub returns-in_default-clause-cause : goal.returns-in_default-clause-cause
 returns-in_default-clause-cause c =

@@ -1,11 +1,10 @@
 ghost use Rattle.std.specs.Prelude.{◌≡◌, ◌≢◌, ◌≤◌, Err, IfOk, IsOk};
 
-use crate::disk::read_once;
-use crate::standard::{flush_once, write_once};
-use crate::{
-    CleanFiles, CleanSink, DiskFiles, Files, MemFile, MemFiles, MemSink, ReadError, StdSink,
-    WriteError, read_all, write_all,
+use outside::{
+    DiskFiles, Files, ReadError, StdSink, WriteError, flush_once, read_all, read_once, write_all,
+    write_once,
 };
+use outside_fakes::{CleanFiles, CleanSink, MemFile, MemFiles, MemSink};
 use std::alloc::{AllocError, Global};
 use std::io::{ErrorKind, Read, Write};
 use std::test::Fail;

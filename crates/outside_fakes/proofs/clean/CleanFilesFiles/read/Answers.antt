@@ -1,7 +1,7 @@
 use Rattle.std.proofs.Common.{◌≡◌, Some, None, position, arith}
-use Rattle.outside.specs.Named.{is_named}
-use Rattle.outside.proofs.NamedFiles.{absent, present}
-use Rattle.outside.proofs.clean.CleanFilesFiles.read.Goals as goal
+use Rattle.outside_fakes.specs.Named.{is_named}
+use Rattle.outside_fakes.proofs.NamedFiles.{absent, present}
+use Rattle.outside_fakes.proofs.clean.CleanFilesFiles.read.Goals as goal
 
 pub returns-in-Some-clause-count : goal.returns-in-Some-clause-count
 returns-in-Some-clause-count c =

@@ -7,8 +7,8 @@ use Rattle.std.proofs.lemmas.Option.{cond_some, slice_get-get_or, slice_get_past
 use Rattle.std.proofs.lemmas.Slice.Eq.{bytes_eq-Decides}
 use Rattle.std.specs.List.{position_or_len}
 use Rattle.outside.specs.Counts.{NeverFalls, one_more, top}
-use Rattle.outside.specs.Named.{contents_named, faults_named, is_named, first_named}
-use Rattle.outside.specs.declared.mem_file.MemFile.{MemFile}
+use Rattle.outside_fakes.specs.Named.{contents_named, faults_named, is_named, first_named}
+use Rattle.outside_fakes.specs.declared.mem_file.MemFile.{MemFile}
 
 cases_text : (xs ys : List ℕ) → ((bytes_eq xs ys ≡ true) × (xs ≡ ys)) ⊎ ((bytes_eq xs ys ≡ false) × (xs ≢ ys))
 cases_text xs ys =

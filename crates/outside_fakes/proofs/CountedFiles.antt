@@ -4,8 +4,8 @@ use Rattle.std.proofs.lemmas.List.Quantifiers.{position-Some}
 use Rattle.std.proofs.lemmas.Option.{cond_some}
 use Rattle.std.specs.List.{position_or_len}
 use Rattle.outside.specs.Counts.{one_more}
-use Rattle.outside.specs.Named.{is_named, first_named, counted_named}
-use Rattle.outside.specs.declared.mem_file.MemFile.{MemFile}
+use Rattle.outside_fakes.specs.Named.{is_named, first_named, counted_named}
+use Rattle.outside_fakes.specs.declared.mem_file.MemFile.{MemFile}
 
 pub counts_none : (files : List MemFile) (name : List ℕ) → first_named files name ≡ None → counted_named files name ≡ files
 counts_none [] name none = refl

@@ -3,9 +3,12 @@ ghost use Rattle.std.specs.Prelude.{◌≡◌, ◌+◌, ◌-◌, ◌<◌, ◌≤
 ghost use Rattle.outside.specs.Counts.{NeverFalls, one_more};
 
 use crate::calls::next_fails;
-use crate::errors::{Failed, Memory};
-use crate::sink::Sink;
+use outside::{Failed, Sink};
 use std::alloc::Global;
+
+/// Out of memory.
+#[derive(Clone, Copy, Debug, PartialEq, Eq)]
+pub struct Memory;
 
 /// A sink in memory that takes at most `piece` bytes a call, and fails the calls whose numbers, counted
 /// from 1, stand in `fails`.

@@ -1,7 +1,7 @@
 //! A file in memory.
 ghost use Rattle.std.specs.Prelude.{◌≡◌, ◌-◌, ◌≤◌, length, take, drop, min, position};
 ghost use Rattle.outside.specs.Counts.{one_more, top};
-ghost use Rattle.outside.specs.Named.{is_named};
+ghost use Rattle.outside_fakes.specs.Named.{is_named};
 
 /// One file with its count of faults.
 #[derive(Drop)]

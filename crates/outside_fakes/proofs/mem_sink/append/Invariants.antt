@@ -1,6 +1,6 @@
 -- What was pushed so far is the front of the bytes, and the room is as it was.
 use Rattle.std.proofs.Common.{◌≡◌, ◌+◌, ◌++◌, take, vec_capacity, vec_len}
-use Rattle.outside.proofs.mem_sink.append.Given as goal
+use Rattle.outside_fakes.proofs.mem_sink.append.Given as goal
 
 abbrev pub invariant-loop-byte : goal.invariant-loop-byte
 invariant-loop-byte l = record {

@@ -2,10 +2,8 @@
 ghost use Rattle.std.specs.Prelude.{◌≡◌, ◌+◌, ◌-◌, ◌<◌, ℕ, List, Option, Some, None, Ok, [], length, take, drop, min, unwrap_or, IfOk};
 ghost use Rattle.outside.specs.Counts.{top};
 
-use crate::errors::Failed;
-use crate::files::Files;
 use crate::mem_file::{MemFile, copy_piece, place_of};
-use crate::sink::Sink;
+use outside::{Failed, Files, Sink};
 
 /// Files in memory that never fail: their count of faults is always 0.
 ///
@@ -16,7 +14,7 @@ pub struct CleanFiles {
 }
 
 impl Files for CleanFiles {
-    ghost use Rattle.outside.specs.Named.{contents_named};
+    ghost use Rattle.outside_fakes.specs.Named.{contents_named};
 
     ghost contents = { λ s name. Some (unwrap_or (contents_named s.files.items name) []) };
 

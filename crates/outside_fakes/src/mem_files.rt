@@ -3,9 +3,8 @@ ghost use Rattle.std.specs.Prelude.{◌≡◌, ◌≢◌, ◌-◌, ◌≤◌, �
 ghost use Rattle.outside.specs.Counts.{NeverFalls, one_more};
 
 use crate::calls::next_fails;
-use crate::errors::Failed;
-use crate::files::Files;
 use crate::mem_file::{MemFile, copy_piece, count_fault, place_of};
+use outside::{Failed, Files};
 
 /// Files in memory that give at most `piece` bytes a call, and fail the calls whose numbers, counted
 /// from 1, stand in `fails`.
@@ -23,8 +22,8 @@ pub struct MemFiles {
 }
 
 impl Files for MemFiles {
-    ghost use Rattle.outside.specs.MemFiles.{contents_of, faults_of};
-    ghost use Rattle.outside.specs.Named.{counted_named};
+    ghost use Rattle.outside_fakes.specs.MemFiles.{contents_of, faults_of};
+    ghost use Rattle.outside_fakes.specs.Named.{counted_named};
 
     ghost contents = { contents_of };
 
