@@ -24,8 +24,6 @@ mod program;
 mod refusal;
 mod registers;
 mod store;
-#[cfg(test)]
-mod tests;
 mod value;
 
 pub use laws::{lists_are_read_in_one_way, programs_are_one, visible_names_are_seen};

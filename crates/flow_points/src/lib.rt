@@ -20,8 +20,6 @@ mod points;
 mod recovery;
 mod refusal;
 mod sites;
-#[cfg(test)]
-mod tests;
 mod walks;
 
 pub use code_points::{CodePoint, Flow, Point};

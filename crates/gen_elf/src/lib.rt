@@ -15,6 +15,3 @@ mod refusal;
 
 pub use generator::generate;
 pub use refusal::GenRefusal;
-
-#[cfg(test)]
-mod tests;

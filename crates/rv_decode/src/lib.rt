@@ -24,6 +24,3 @@ pub use decoder::decode;
 pub use encoder::{encode, well_formed};
 pub use instructions::{BranchOp, ImmOp, Instr, LoadOp, RegOp, ShiftOp, StoreOp};
 pub use registers::{read_register, register_name};
-
-#[cfg(test)]
-mod tests;

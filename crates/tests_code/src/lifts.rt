@@ -1,8 +1,12 @@
 //! What instructions give to tracked names, track lists, and a program, by hand.
 
-use crate::{TrackRefusal, lift, read_tracked};
+use crate::images::{push_section, push_symbol};
+use affine_lift::{TrackRefusal, lift, read_tracked};
 use affine_prog::{Assign, Edge, Kind, Proc, Program};
 use elf_image::{Image, read_image};
+use elf_write::{
+    FileHeader, SegmentHeader, file_of_words, push_file_header, push_program_header, push_words,
+};
 use flow_points::{Points, recover};
 use frame_offsets::offsets;
 use report_text::Name;
@@ -12,41 +16,9 @@ use word_rows::Row;
 
 const EBREAK: u32 = 0x00100073;
 
-/// The headers of an executable with one segment, which is the whole file, loaded at 0x10000. The code
-/// begins at 0x10078. The file's length is to be written at the places 96 and 104.
-const HEADERS: [u8; 120] = [
-    0x7f, 0x45, 0x4c, 0x46, 2, 1, 1, 0, 0, 0, 0, 0, 0, 0, 0, 0, // e_ident
-    2, 0, 243, 0, 1, 0, 0, 0, // e_type, e_machine, e_version
-    0x78, 0, 1, 0, 0, 0, 0, 0, // e_entry
-    64, 0, 0, 0, 0, 0, 0, 0, // e_phoff
-    0, 0, 0, 0, 0, 0, 0, 0, // e_shoff
-    0, 0, 0, 0, 64, 0, 56, 0, 1, 0, // e_flags, e_ehsize, e_phentsize, e_phnum
-    0, 0, 0, 0, 0, 0, // e_shentsize, e_shnum, e_shstrndx
-    1, 0, 0, 0, 5, 0, 0, 0, // p_type, p_flags
-    0, 0, 0, 0, 0, 0, 0, 0, // p_offset
-    0, 0, 1, 0, 0, 0, 0, 0, // p_vaddr
-    0, 0, 1, 0, 0, 0, 0, 0, // p_paddr
-    0, 0, 0, 0, 0, 0, 0, 0, // p_filesz
-    0, 0, 0, 0, 0, 0, 0, 0, // p_memsz
-    0, 0x10, 0, 0, 0, 0, 0, 0, // p_align
-];
-
-/// A small file with this code.
-fn file_of(alloc: Global, words: &[u32]) -> Result<Vec<u8>, AllocError> {
-    let mut bytes = Vec::from_slice(alloc, &HEADERS[..96])?;
-    let length = 120 + 4 * words.len() as u64;
-    bytes.extend_from_slice(&length.to_le_bytes())?;
-    bytes.extend_from_slice(&length.to_le_bytes())?;
-    bytes.extend_from_slice(&HEADERS[112..])?;
-    for word in words {
-        bytes.extend_from_slice(&word.to_le_bytes())?;
-    }
-    Ok(bytes)
-}
-
-/// Its image and its points.
+/// The image and the points of a small file with this code.
 fn read(alloc: Global, words: &[u32]) -> Result<(Image, Points), Fail> {
-    let image = read_image(alloc, &file_of(alloc, words)?)?;
+    let image = read_image(alloc, &file_of_words(alloc, words)?)?;
     let points = recover(alloc, &image)?;
     Ok((image, points))
 }
@@ -247,68 +219,103 @@ fn is_refused(
     }
 }
 
+fn are_refused(
+    alloc: Global,
+    lists: &[(&str, TrackRefusal)],
+    image: &Image,
+    points: &Points,
+) -> bool {
+    for (list, refusal) in lists {
+        if !is_refused(alloc, list, image, points, *refusal) {
+            return false;
+        }
+    }
+    true
+}
+
 #[test]
 fn refused_lists(rt: HostRuntime) -> Result<(), Fail> {
-    let alloc = rt.alloc();
-    let (image, points) = read(alloc, &[0x00500513, EBREAK])?;
-    for (list, refusal) in REFUSED {
-        assert!(rt; is_refused(alloc, list, &image, &points, refusal), "{list}");
-    }
+    let (image, points) = read(rt.alloc(), &[0x00500513, EBREAK])?;
+    assert!(rt; are_refused(rt.alloc(), &REFUSED, &image, &points));
     Ok(())
 }
 
 /// Symbols, by their place among the texts `main`, `a0` and `end`, and their values.
-const SYMBOLS: [(u8, u64); 4] = [(1, 0x10078), (1, 0x1007c), (6, 0x10078), (9, 0x1007c)];
+const SYMBOLS: [(u32, u64); 4] = [(1, 0x10078), (1, 0x1007c), (6, 0x10078), (9, 0x1007c)];
 
-/// The image of a file whose one procedure is 0x10078, with these symbols.
-fn image_with_symbols(alloc: Global) -> Result<Image, Fail> {
-    let mut bytes = file_of(alloc, &[0x00500513, EBREAK])?;
-    bytes.extend_from_slice(b"\0main\0a0\0end\0\0\0\0")?;
-    for (name, value) in SYMBOLS {
-        bytes.extend_from_slice(&[name, 0, 0, 0, 0x12, 0, 1, 0])?;
-        bytes.extend_from_slice(&u64::to_le_bytes(value))?;
-        bytes.extend_from_slice(&[0; 8])?;
-    }
-    // sh_type, sh_offset, sh_size, sh_link and sh_entsize, at 240
-    for [sh_type, offset, size, link, entsize] in [[2, 144, 96, 1, 24], [3, 128, 16, 0, 0]] {
-        bytes.extend_from_slice(&[0, 0, 0, 0, sh_type, 0, 0, 0])?;
-        bytes.extend_from_slice(&[0; 16])?;
-        bytes.extend_from_slice(&[offset, 0, 0, 0, 0, 0, 0, 0, size, 0, 0, 0, 0, 0, 0, 0])?;
-        bytes.extend_from_slice(&[link, 0, 0, 0, 0, 0, 0, 0, 0, 0, 0, 0, 0, 0, 0, 0])?;
-        bytes.extend_from_slice(&[entsize, 0, 0, 0, 0, 0, 0, 0])?;
-    }
-    for (at, byte) in [(40, 240), (58, 64), (60, 2)] {
-        *bytes.get_mut(at).ok_or("short")? = byte;
-    }
-    Ok(read_image(alloc, &bytes)?)
+/// A file whose one procedure is 0x10078, with these symbols: texts at 128, symbols at 144, sections at 240.
+fn file_with_symbols(alloc: Global) -> Result<Vec<u8>, AllocError> {
+    let header = FileHeader {
+        entry: 0x10078,
+        flags: 0,
+        segments: 1,
+        sections_at: 240,
+        sections: 2,
+        names_section: 0,
+    };
+    let segment = SegmentHeader {
+        offset: 0,
+        address: 0x10000,
+        stored: 128,
+        size: 128,
+        flags: 5,
+    };
+    let mut file = Vec::new(alloc);
+    push_file_header(&mut file, &header)?;
+    push_program_header(&mut file, &segment)?;
+    push_words(&mut file, &[0x00500513, EBREAK])?;
+    push_symbols(&mut file)?;
+    Ok(file)
 }
+
+fn push_symbols(file: &mut Vec<u8>) -> Result<(), AllocError> {
+    file.extend_from_slice(b"\0main\0a0\0end\0\0\0\0")?;
+    for (name, value) in SYMBOLS.iter() {
+        push_symbol(file, (*name, 0x12, 1, *value))?;
+    }
+    push_section(file, [2, 144, 96, 1, 24])?;
+    push_section(file, [3, 128, 16, 0, 0])
+}
+
+/// What a list of registers and slots of the procedure names.
+const NAMES: [Name; 5] = [
+    Name::Register(10),
+    Name::Register(11),
+    Name::Slot {
+        proc_entry: 0x10078,
+        below: 2048,
+    },
+    Name::Slot {
+        proc_entry: 0x10078,
+        below: 8,
+    },
+    Name::Slot {
+        proc_entry: 0x10078,
+        below: 16,
+    },
+];
+
+fn are_named(alloc: Global, image: &Image, points: &Points) -> Result<bool, Fail> {
+    let list = "a0,x11,0x10078:-2048,main:-8,a0:-16";
+    let tracked = read_tracked(alloc, list, image, points)?;
+    Ok(tracked.names.as_slice() == NAMES.as_slice())
+}
+
+/// Lists on that file, with why each is refused.
+const REFUSED_NAMES: [(&str, TrackRefusal); 5] = [
+    ("main", TrackRefusal::UnknownName(1)),
+    ("a0,mai:-8", TrackRefusal::UnknownName(2)),
+    ("main:-12", TrackRefusal::BadSlot(1)),
+    ("end:-8", TrackRefusal::NoSuchProcedure(1)),
+    ("0x10078:-8,main:-8", TrackRefusal::Repeated(2)),
+];
 
 #[test]
 fn names_of_lists(rt: HostRuntime) -> Result<(), Fail> {
-    let alloc = rt.alloc();
-    let image = image_with_symbols(alloc)?;
-    let points = recover(alloc, &image)?;
-    let list = "a0,x11,0x10078:-2048,main:-8,a0:-16";
-    let slots = [2048, 8, 16].map(|below| Name::Slot {
-        proc_entry: 0x10078,
-        below,
-    });
-    let registers = [Name::Register(10), Name::Register(11)];
-    let tracked = read_tracked(alloc, list, &image, &points)?;
-    assert_eq!(rt;
-        tracked.names.as_slice().get(..2),
-        Some(registers.as_slice())
-    );
-    assert_eq!(rt; tracked.names.as_slice().get(2..), Some(slots.as_slice()));
-    for (list, refusal) in [
-        ("main", TrackRefusal::UnknownName(1)),
-        ("a0,mai:-8", TrackRefusal::UnknownName(2)),
-        ("main:-12", TrackRefusal::BadSlot(1)),
-        ("end:-8", TrackRefusal::NoSuchProcedure(1)),
-        ("0x10078:-8,main:-8", TrackRefusal::Repeated(2)),
-    ] {
-        assert!(rt; is_refused(alloc, list, &image, &points, refusal), "{list}");
-    }
+    let image = read_image(rt.alloc(), &file_with_symbols(rt.alloc())?)?;
+    let points = recover(rt.alloc(), &image)?;
+    assert!(rt; are_named(rt.alloc(), &image, &points)?);
+    assert!(rt; are_refused(rt.alloc(), &REFUSED_NAMES, &image, &points));
     Ok(())
 }
 
@@ -351,42 +358,48 @@ fn is_edge(edge: &Edge, case: &(u32, u32, Option<u32>, Option<u8>, [u64; 4], u64
     same && edge.from == from && edge.to == to && callee_of(&edge.kind) == callee
 }
 
+fn are_edges(edges: &[Edge], cases: &[(u32, u32, Option<u32>, Option<u8>, [u64; 4], u64)]) -> bool {
+    for (edge, case) in edges.iter().zip(cases) {
+        if !is_edge(edge, case) {
+            return false;
+        }
+    }
+    edges.len() == cases.len()
+}
+
 #[test]
 fn edges_of_a_recursion(rt: HostRuntime) -> Result<(), Fail> {
     let program = lifted(rt.alloc(), &RECURSION, "sp,ra,0x10080:-8")?;
-    assert_eq!(rt; program.edges.len(), 9);
-    for (edge, case) in program.edges.as_slice().iter().zip(&EDGES) {
-        assert!(rt; is_edge(edge, case));
-    }
+    assert!(rt; are_edges(program.edges.as_slice(), &EDGES));
     Ok(())
+}
+
+const PROCS: [Proc; 2] = [
+    Proc {
+        entry: 0,
+        exit: 9,
+        slots: 0,
+    },
+    Proc {
+        entry: 2,
+        exit: 10,
+        slots: 0b100,
+    },
+];
+
+const OWNERS: [u32; 11] = [0, 0, 1, 1, 1, 1, 1, 1, 1, 0, 1];
+
+fn is_recursion(program: &Program) -> bool {
+    program.width == 3
+        && program.registers == 0b011
+        && program.nodes == 11
+        && program.start == 0
+        && program.procs.as_slice() == PROCS.as_slice()
+        && program.owners.as_slice() == OWNERS.as_slice()
 }
 
 #[test]
 fn nodes_of_a_recursion(rt: HostRuntime) -> Result<(), Fail> {
-    let program = lifted(rt.alloc(), &RECURSION, "sp,ra,0x10080:-8")?;
-    let first = Proc {
-        entry: 0,
-        exit: 9,
-        slots: 0,
-    };
-    let second = Proc {
-        entry: 2,
-        exit: 10,
-        slots: 0b100,
-    };
-    assert_eq!(rt;
-        (
-            program.width,
-            program.registers,
-            program.nodes,
-            program.start
-        ),
-        (3, 0b011, 11, 0)
-    );
-    assert_eq!(rt; program.procs.as_slice(), [first, second].as_slice());
-    assert_eq!(rt;
-        program.owners.as_slice(),
-        [0, 0, 1, 1, 1, 1, 1, 1, 1, 0, 1].as_slice()
-    );
+    assert!(rt; is_recursion(&lifted(rt.alloc(), &RECURSION, "sp,ra,0x10080:-8")?));
     Ok(())
 }
