@@ -23,8 +23,6 @@ mod positions;
 mod program;
 mod registers;
 mod store;
-#[cfg(test)]
-mod tests;
 mod value;
 
 pub use laws::{lists_are_read_in_one_way, programs_are_one, visible_names_are_seen};

@@ -27,10 +27,6 @@ mod section;
 mod segment;
 mod symbol;
 mod symbols;
-#[cfg(test)]
-mod symbols_tests;
-#[cfg(test)]
-mod tests;
 
 pub use fetched::{Fetched, fetch_length};
 pub use file_header::unit_of;

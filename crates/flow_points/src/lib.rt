@@ -19,8 +19,6 @@ pub mod laws;
 mod points;
 mod recovery;
 mod sites;
-#[cfg(test)]
-mod tests;
 mod walks;
 
 pub use code_points::{CodePoint, Flow, Point};

@@ -18,8 +18,6 @@ mod rows;
 mod settle;
 mod sources;
 mod table;
-#[cfg(test)]
-mod tests;
 
 pub use compute::offsets;
 pub use frame::Offsets;

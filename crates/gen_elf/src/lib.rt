@@ -11,10 +11,6 @@
 
 mod code;
 mod generator;
-mod headers;
 
 pub use generator::generate;
 pub use refusals::GenRefusal;
-
-#[cfg(test)]
-mod tests;

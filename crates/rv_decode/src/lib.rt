@@ -23,6 +23,3 @@ pub use decoder::decode;
 pub use encoder::{encode, well_formed};
 pub use registers::{read_register, register_name};
 pub use rv_instr::{BranchOp, ImmOp, Instr, LoadOp, RegOp, ShiftOp, StoreOp};
-
-#[cfg(test)]
-mod tests;

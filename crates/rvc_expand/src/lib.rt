@@ -18,6 +18,3 @@ mod lengths;
 
 pub use expander::expand;
 pub use lengths::{decode_with_length, length_of};
-
-#[cfg(test)]
-mod tests;

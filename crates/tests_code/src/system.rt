@@ -1,0 +1,187 @@
+//! The system's files and its standard output, and calls that are interrupted.
+
+ghost use Rattle.std.specs.Prelude.{◌≤◌, IfOk};
+
+use outside::{
+    DiskFiles, Files, ReadError, StdSink, flush_once, read_all, read_once, write_all, write_once,
+};
+use std::alloc::{AllocError, Global};
+use std::io::{ErrorKind, Read, Write};
+use std::path::PathBuf;
+use std::test::Fail;
+use std::{env, fs, io, process};
+
+/// Whether a file is read whole, with these contents.
+pub(crate) fn reads_as<F: Files>(
+    alloc: Global,
+    files: &mut F,
+    name: &str,
+    limit: u64,
+    contents: &[u8],
+) -> bool {
+    match read_all(alloc, files, name, limit) {
+        Ok(got) => got.as_slice() == contents,
+        Err(_) => false,
+    }
+}
+
+/// Whether it can't be read, and for this cause.
+pub(crate) fn fails_as<F: Files>(
+    alloc: Global,
+    files: &mut F,
+    name: &str,
+    limit: u64,
+    error: ReadError,
+) -> bool {
+    match read_all(alloc, files, name, limit) {
+        Ok(_) => false,
+        Err(found) => found == error,
+    }
+}
+
+/// A place for a file of this process that doesn't last.
+fn path_of(rt: &HostRuntime, name: &str) -> Result<PathBuf, Fail> {
+    let id = process::id(rt.process());
+    let file = format!(in rt.alloc(); "{name}-{id}")?;
+    Ok(env::temp_dir(rt)?.join(rt.alloc(), file.as_str())?)
+}
+
+/// Bytes that count from 0 to 250, again and again.
+fn counting(alloc: Global, length: u32) -> Result<Vec<u8>, AllocError> {
+    let mut bytes = Vec::new(alloc);
+    for i in 0..length {
+        bytes.push((i % 251) as u8)?;
+    }
+    Ok(bytes)
+}
+
+fn reads_counting<F: Files>(alloc: Global, files: &mut F, name: &str) -> Result<bool, Fail> {
+    let contents = counting(alloc, 10_000)?;
+    Ok(
+        reads_as(alloc, files, name, 10_000, &contents)
+            && fails_as(alloc, files, name, 9_999, ReadError::TooLong(9_999)),
+    )
+}
+
+/// Places in the file, ahead of where it stands and behind it, and the bytes there.
+const PLACES: [(u64, u8); 3] = [(9_000, 215), (5_000, 231), (5_001, 232)];
+
+fn reads_at_places<F: Files>(files: &mut F, name: &str) -> bool {
+    let mut byte = [0u8];
+    for (at, want) in PLACES.iter() {
+        if files.read(name, *at, &mut byte) != Ok(1) || byte[0] != *want {
+            return false;
+        }
+    }
+    files.read(name, 20_000, &mut byte) == Ok(0)
+}
+
+#[test]
+fn reads_from_disk(rt: HostRuntime) -> Result<(), Fail> {
+    let path = path_of(&rt, "outside")?;
+    let name = path.to_str().ok_or("no text")?;
+    fs::write(&rt, name, counting(rt.alloc(), 10_000)?.as_slice())?;
+    let mut files = DiskFiles::new(rt.alloc(), &rt);
+    assert!(rt; reads_counting(rt.alloc(), &mut files, name)?);
+    assert!(rt; reads_at_places(&mut files, name));
+    fs::remove_file(&rt, name)?;
+    assert!(rt; fails_as(rt.alloc(), &mut files, name, 10_000, ReadError::Failed));
+    Ok(())
+}
+
+/// Reads two files in turn, the second from the place where the first stands, and then each whole.
+fn reads_in_turn<F: Files>(alloc: Global, files: &mut F, first: &str, second: &str) -> bool {
+    let mut bytes = [0u8; 5];
+    files.read(first, 0, &mut bytes) == Ok(5)
+        && files.read(second, 5, &mut bytes) == Ok(3)
+        && bytes.get(..3) == Some(b"-16".as_slice())
+        && reads_as(alloc, files, first, 100, b"slot -8")
+        && reads_as(alloc, files, second, 100, b"slot -16")
+}
+
+#[test]
+fn reads_each_file_from_its_beginning(rt: HostRuntime) -> Result<(), Fail> {
+    let first_path = path_of(&rt, "outside-first")?;
+    let second_path = path_of(&rt, "outside-second")?;
+    let first = first_path.to_str().ok_or("no text")?;
+    let second = second_path.to_str().ok_or("no text")?;
+    fs::write(&rt, first, b"slot -8")?;
+    fs::write(&rt, second, b"slot -16")?;
+    let mut files = DiskFiles::new(rt.alloc(), &rt);
+    assert!(rt; reads_in_turn(rt.alloc(), &mut files, first, second));
+    // A file that is replaced while it is open at its beginning.
+    assert!(rt; files.read(first, 0, &mut []) == Ok(0));
+    fs::remove_file(&rt, first)?;
+    fs::write(&rt, first, b"slot -24")?;
+    assert!(rt; reads_as(rt.alloc(), &mut files, first, 100, b"slot -24"));
+    fs::remove_file(&rt, first)?;
+    fs::remove_file(&rt, second)?;
+    Ok(())
+}
+
+/// A reader and writer whose first calls are interrupted, and the next of another kind.
+#[derive(Drop)]
+struct Interrupted {
+    calls: usize,
+    then: Option<ErrorKind>,
+}
+
+impl Interrupted {
+    fn next(&mut self, length: usize) -> io::Result<usize>
+        ensures { IfOk result (λ n. n ≤ length) }
+    {
+        if self.calls > 0 {
+            self.calls -= 1;
+            return Err(io::Error::from(ErrorKind::Interrupted));
+        }
+        match self.then {
+            Some(kind) => Err(io::Error::from(kind)),
+            None => Ok(length),
+        }
+    }
+}
+
+impl Read for Interrupted {
+    fn read(&mut self, buf: &mut [u8]) -> io::Result<usize> {
+        self.next(buf.len())
+    }
+}
+
+impl Write for Interrupted {
+    fn write(&mut self, buf: &[u8]) -> io::Result<usize> {
+        self.next(buf.len())
+    }
+
+    fn flush(&mut self) -> io::Result<()> {
+        self.next(0)?;
+        Ok(())
+    }
+}
+
+fn end_of(calls: usize, then: Option<ErrorKind>) -> Interrupted {
+    Interrupted { calls, then }
+}
+
+/// The calls at an end that is interrupted so often: the bytes read and written, and whether it was flushed.
+fn calls_at(calls: usize, then: Option<ErrorKind>) -> (Option<usize>, Option<usize>, bool) {
+    let mut bytes = [0u8; 4];
+    let read = read_once(&mut end_of(calls, then), &mut bytes).ok();
+    let written = write_once(&mut end_of(calls, then), b"row").ok();
+    let flushed = flush_once(&mut end_of(calls, then)).is_ok();
+    (read, written, flushed)
+}
+
+fn tries_again(calls: usize) -> bool {
+    calls_at(calls, None) == (Some(4), Some(3), true)
+        && calls_at(calls, Some(ErrorKind::BrokenPipe)) == (None, None, false)
+}
+
+#[test]
+fn tries_again_where_it_was_interrupted(rt: HostRuntime) {
+    assert!(rt; tries_again(0) && tries_again(1) && tries_again(3));
+}
+
+#[test]
+fn writes_to_standard_output(rt: HostRuntime) {
+    assert!(rt; write_all(&mut StdSink::new(&rt), b"written by StdSink\n") == Ok(()));
+}
