@@ -1,0 +1,37 @@
+-- Files that are refused.
+--
+--   IsRefused bytes status text       what every order over a file gets for bytes that are too many, or no image,
+--                                     or whose code is refused for its flow
+--   IsCode bytes image points         the bytes are accepted, and this is their image, and these are its points
+--   IsListRefusal bytes refusal       there is no list of the bytes' points, for this cause
+use Rattle.std.specs.Prelude.{◌≡◌, ℕ, ◌<◌, ◌≤◌, List, Some, length}
+use Rattle.elf_image.specs.declared.image.Image.{Image}
+use Rattle.elf_image.specs.declared.refusal.ElfRefusal.{ElfRefusal}
+use Rattle.elf_image.specs.Fields.{unit_of}
+use Rattle.elf_image.specs.Refusals.{refusal_of}
+use Rattle.flow_points.specs.Refusals.{IsFlowRefusal}
+use Rattle.flow_points.specs.PointLists.{FlowPoints}
+use Rattle.flow_points.specs.declared.refusal.FlowRefusal.{FlowRefusal}
+use Rattle.analyser_core.specs.Accepted.{most_bytes, IsImageOf, HasPoints}
+use Rattle.analyser_core.specs.declared.refusal.Refusal.{Refusal}
+use Rattle.analyser_core.specs.declared.refusal.Refusal.TheVariants.{Elf, Flow, Track, Heads, Memory}
+use Rattle.refusal_lines.specs.Lines.{elf_line, flow_line, too_long_line}
+
+pub data IsRefused (bytes : List ℕ) : ℕ → List ℕ → Type 0 where
+  too_long : (status : ℕ) (text : List ℕ) → most_bytes < length bytes → status ≡ 1 → text ≡ too_long_line → IsRefused bytes status text
+  no_image : (status : ℕ) (text : List ℕ) (refusal : ElfRefusal) → length bytes ≤ most_bytes → refusal_of bytes ≡ Some refusal →
+      status ≡ 1 → text ≡ elf_line refusal → IsRefused bytes status text
+  bad_flow : (status : ℕ) (text : List ℕ) (image : Image) (refusal : FlowRefusal) → length bytes ≤ most_bytes → IsImageOf bytes image →
+      IsFlowRefusal image refusal → status ≡ 1 → text ≡ flow_line (unit_of bytes) refusal → IsRefused bytes status text
+
+pub record IsCode (bytes : List ℕ) (image : Image) (points : FlowPoints) : Type 0 where
+  pub short : length bytes ≤ most_bytes
+  pub is_image : IsImageOf bytes image
+  pub has_points : HasPoints image points
+
+abbrev pub IsListRefusal : List ℕ → Refusal → Type 0
+IsListRefusal bytes (Elf refusal) = refusal_of bytes ≡ Some refusal
+IsListRefusal bytes (Flow refusal) = (image : Image) × IsImageOf bytes image × IsFlowRefusal image refusal
+IsListRefusal bytes (Track refusal) = ⊥
+IsListRefusal bytes (Heads limit) = ⊥
+IsListRefusal bytes Memory = Unit {0}
