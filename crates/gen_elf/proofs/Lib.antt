@@ -1,3 +1,2 @@
 mod CodeAdded
-mod LowBytes
 mod Sizes

@@ -5,8 +5,6 @@
 --   most_procedures          how many procedures there are at most
 --   IsInRange n              n is from 1 to that
 --   IsOutOfRange n           it isn't
---   load_address             the address of the file's first byte
---   headers_size             the bytes before the code: a file header and one program header
 --   ra, sp, a0               numbers of registers
 --   start_code               the code at the entry: 12 bytes
 --   address_of i             the address of procedure i, of 32 bytes
@@ -15,15 +13,13 @@
 --   procedure_code n i       the code of procedure i
 --   code_of n                the whole code
 --   AddsCode old code new    new is old with the words of the code behind it, the least byte of each first
---   fields_text fields       numbers in a file, each a width in bytes and a value
---   file_header              the file header: System V ABI, "ELF Header"
---   program_header size      the header of a segment with this many bytes: System V ABI, "Program Header"
 --   file_size n              the bytes of the file
 --   IsGenerated n bytes      the bytes are the file with n procedures
 --   IsGenRefusal n refusal   n is refused for its range, or memory is wanting
 use Rattle.std.specs.Prelude.{◌≡◌, ℕ, ◌+◌, ◌-◌, ◌*◌, ◌≤◌, ◌<◌, ◌==◌, ◌⊎◌, ℤ, pos, neg_ℤ, ◌-ℤ◌, List, [], ◌∷◌, ◌++◌, if◌then◌else◌}
 use Rattle.std.specs.List.{AllZip, flat_map, range_with_len}
 use Rattle.byteorder.specs.Endian.{little_bytes}
+use Rattle.elf_write.specs.Headers.{headers_size, load_address, small_headers}
 use Rattle.rv_decode.specs.Instructions.{Means}
 use Rattle.rv_decode.specs.declared.instructions.Instr.{Instr}
 use Rattle.rv_decode.specs.declared.instructions.Instr.TheVariants.{Jal, Jalr, Branch, Load, Store, Imm, Ebreak}
@@ -42,12 +38,6 @@ IsInRange n = (1 ≤ n) × (n ≤ most_procedures)
 
 abbrev pub IsOutOfRange : ℕ → Type 0
 IsOutOfRange n = (n < 1) ⊎ (most_procedures < n)
-
-abbrev pub load_address : ℕ
-load_address = 0x10000
-
-abbrev pub headers_size : ℕ
-headers_size = 120
 
 abbrev pub ra : ℕ
 ra = 1
@@ -83,28 +73,12 @@ pub record AddsCode (old : List ℕ) (code : List Instr) (new : List ℕ) : Type
   pub mean : AllZip Means words code
   pub added : new ≡ old ++ flat_map (little_bytes 4) words
 
-abbrev pub fields_text : List (ℕ × ℕ) → List ℕ
-fields_text fields = flat_map (λ field. little_bytes field.0 field.1) fields
-
--- e_ident; e_type, e_machine, e_version, e_entry, e_phoff, e_shoff, e_flags; e_ehsize, e_phentsize, e_phnum,
--- e_shentsize, e_shnum, e_shstrndx
-abbrev pub file_header : List ℕ
-file_header =
-    0x7f ∷ 0x45 ∷ 0x4c ∷ 0x46 ∷ 2 ∷ 1 ∷ 1 ∷ 0 ∷ 0 ∷ 0 ∷ 0 ∷ 0 ∷ 0 ∷ 0 ∷ 0 ∷ 0
-    ∷ fields_text ((2, 2) ∷ (2, 243) ∷ (4, 1) ∷ (8, load_address + headers_size) ∷ (8, 64) ∷ (8, 0) ∷ (4, 0)
-    ∷ (2, 64) ∷ (2, 56) ∷ (2, 1) ∷ (2, 0) ∷ (2, 0) ∷ (2, 0) ∷ [])
-
--- p_type, p_flags, p_offset, p_vaddr, p_paddr, p_filesz, p_memsz, p_align
-abbrev pub program_header : ℕ → List ℕ
-program_header size = fields_text ((4, 1) ∷ (4, 5) ∷ (8, 0) ∷ (8, load_address) ∷ (8, load_address) ∷ (8, size)
-    ∷ (8, size) ∷ (8, 0x1000) ∷ [])
-
 abbrev pub file_size : ℕ → ℕ
 file_size n = headers_size + 12 + 32 * n
 
 pub record IsGenerated (n : ℕ) (bytes : List ℕ) : Type 0 where
   pub in_range : IsInRange n
-  pub whole : AddsCode (file_header ++ program_header (file_size n)) (code_of n) bytes
+  pub whole : AddsCode (small_headers 0 (file_size n)) (code_of n) bytes
 
 abbrev pub IsGenRefusal : ℕ → GenRefusal → Type 0
 IsGenRefusal n (Range number) = (number ≡ n) × IsOutOfRange n

@@ -4,7 +4,7 @@ ghost use Rattle.std.specs.Prelude.{◌≡◌, ◌≤◌, All, OnOk};
 ghost use Rattle.rv_decode.specs.Instructions.{IsWellFormed};
 ghost use Rattle.gen_elf.specs.Generated.{AddsCode, IsInRange, call_offset, procedure_code, start_code};
 
-use crate::headers::push_number;
+use elf_write::push_number;
 use rv_decode::{BranchOp, ImmOp, Instr, LoadOp, StoreOp, encode};
 use std::alloc::AllocError;
 

@@ -5,7 +5,7 @@ ghost use Rattle.gen_elf.specs.Generated.{AddsCode, IsGenerated, IsGenRefusal, I
 
 use crate::GenRefusal;
 use crate::code::{procedure_code, push_code, start_code};
-use crate::headers::{push_file_header, push_program_header};
+use elf_write::push_small_headers;
 use std::alloc::{AllocError, Global};
 
 /// The file with `n` procedures.
@@ -27,8 +27,7 @@ fn file_of(alloc: Global, n: u32) -> Result<Vec<u8>, AllocError>
     ensures { IfOk result (λ bytes. IsGenerated n bytes.items) }
 {
     let mut file = Vec::new(alloc);
-    push_file_header(&mut file)?;
-    push_program_header(&mut file, 132 + 32 * u64::from(n))?;
+    push_small_headers(&mut file, 0, 132 + 32 * u64::from(n))?;
     push_all_code(&mut file, n)?;
     Ok(file)
 }

@@ -11,7 +11,6 @@
 
 mod code;
 mod generator;
-mod headers;
 mod refusal;
 
 pub use generator::generate;

@@ -1,3 +1,1 @@
-pub mod NamedFiles
-pub mod Gained
-pub mod CountedFiles
+mod Gained

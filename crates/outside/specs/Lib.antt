@@ -1,4 +1,2 @@
 pub mod Counts
-pub mod MemFiles
-pub mod Named
 pub mod Written

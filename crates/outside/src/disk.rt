@@ -13,7 +13,7 @@ use std::{io, rt};
 const STEP: u64 = 4096;
 
 /// One read into `into`, tried again where the system interrupted it.
-pub(crate) fn read_once<F: Read>(file: &mut F, into: &mut [u8]) -> io::Result<usize>
+pub fn read_once<F: Read>(file: &mut F, into: &mut [u8]) -> io::Result<usize>
     ensures { IfOk result (λ n. n ≤ length into.new) }
 {
     for _ in 0..u64::MAX {

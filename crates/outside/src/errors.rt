@@ -4,10 +4,6 @@
 #[derive(Clone, Copy, Debug, PartialEq, Eq)]
 pub struct Failed;
 
-/// Out of memory.
-#[derive(Clone, Copy, Debug, PartialEq, Eq)]
-pub struct Memory;
-
 /// Why a file couldn't be read whole.
 #[derive(Clone, Copy, Debug, PartialEq, Eq)]
 pub enum ReadError {

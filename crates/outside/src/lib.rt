@@ -7,10 +7,9 @@
 //! `read_all` gives the whole contents of a file or says why not, and `write_all` appends a whole text or
 //! says that a put failed, after which a prefix of the text stands in the sink.
 //!
-//! Files and sinks stand here in three kinds: in memory with calls that fail at will (`MemFiles`,
-//! `MemSink`), in memory with no fault at all (`CleanFiles`, `CleanSink`), and the system's own
-//! (`DiskFiles`, `StdSink`). What the system's files hold, and whether standard output shows what was
-//! written, is left to the system: of these two, only the counts are proved.
+//! Files and sinks stand here in one kind, the system's own (`DiskFiles`, `StdSink`). What the system's files
+//! hold, and whether standard output shows what was written, is left to the system: of these, only the
+//! counts are proved. Files and sinks in memory, which tests take, stand in a crate above.
 //!
 //! ```text
 //! let mut files = DiskFiles::new(alloc, &rt);
@@ -19,29 +18,18 @@
 //! ```
 #![tactic(auto)]
 
-mod calls;
-mod clean;
 mod disk;
 mod errors;
 mod files;
-mod mem_file;
-mod mem_files;
-mod mem_sink;
 mod read;
 mod sink;
 mod standard;
-#[cfg(test)]
-mod tests;
 mod write;
 
-pub use clean::{CleanFiles, CleanSink};
-pub use disk::DiskFiles;
-pub use errors::{Failed, Memory, ReadError, WriteError};
+pub use disk::{DiskFiles, read_once};
+pub use errors::{Failed, ReadError, WriteError};
 pub use files::Files;
-pub use mem_file::MemFile;
-pub use mem_files::MemFiles;
-pub use mem_sink::MemSink;
 pub use read::read_all;
 pub use sink::Sink;
-pub use standard::StdSink;
+pub use standard::{StdSink, flush_once, write_once};
 pub use write::write_all;

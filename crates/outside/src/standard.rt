@@ -30,7 +30,7 @@ impl<R: Print + Drop> StdSink<R> {
 }
 
 /// One write of some of the bytes, tried again where the system interrupted it.
-pub(crate) fn write_once<W: Write>(out: &mut W, bytes: &[u8]) -> io::Result<usize>
+pub fn write_once<W: Write>(out: &mut W, bytes: &[u8]) -> io::Result<usize>
     ensures { IfOk result (λ n. n ≤ length bytes.now) }
 {
     for _ in 0..u64::MAX {
@@ -43,7 +43,7 @@ pub(crate) fn write_once<W: Write>(out: &mut W, bytes: &[u8]) -> io::Result<usiz
 }
 
 /// Flushes, and tries it again where the system interrupted it.
-pub(crate) fn flush_once<W: Write>(out: &mut W) -> io::Result<()> {
+pub fn flush_once<W: Write>(out: &mut W) -> io::Result<()> {
     for _ in 0..u64::MAX {
         match out.flush() {
             Err(error) if error.kind() == ErrorKind::Interrupted => {}
