@@ -9,10 +9,10 @@ use Rattle.analyser_core.specs.declared.refusal.Refusal.{Refusal}
 use Rattle.analyser_core.specs.declared.refusal.Refusal.TheVariants.{Elf, Flow, Track, Heads, Memory}
 use Rattle.elf_image.specs.declared.image.Image.{Image}
 use Rattle.analyser_core.specs.Accepted.{most_bytes, IsCodeRefusal, IsFileRefusal, IsImageOf, IsRefusal}
-use Rattle.refusal_lines.specs.Lines.{IsLineOf, heads_line}
+use Rattle.refusal_lines.specs.Lines.{heads_line}
 use Rattle.order_answers.specs.Answers as answers
 use Rattle.order_answers.specs.Answers.{no_list, crowded, IsAnswer, IsListing}
-use Rattle.order_answers.specs.FileRefusals.{IsRefused, IsListRefusal, no_image, bad_flow}
+use Rattle.order_answers.specs.FileRefusals.{IsLineOf, IsRefused, IsListRefusal, no_image, bad_flow}
 
 pub answer_refused : (told : Report → List CertLine → List ℕ) (list bytes : List ℕ) (refusal : Refusal) (text : List ℕ) → length bytes ≤ most_bytes →
     IsRefusal bytes list refusal → IsLineOf bytes refusal text → IsAnswer told list bytes 1 text

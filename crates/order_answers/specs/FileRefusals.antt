@@ -4,6 +4,7 @@
 --                                     or whose code is refused for its flow
 --   IsCode bytes image points         the bytes are accepted, and this is their image, and these are its points
 --   IsListRefusal bytes refusal       there is no list of the bytes' points, for this cause
+--   IsLineOf bytes refusal text       the text is the line of what these bytes are refused for; want of memory has none
 use Rattle.std.specs.Prelude.{◌≡◌, ℕ, ◌<◌, ◌≤◌, List, Some, length}
 use Rattle.elf_image.specs.declared.image.Image.{Image}
 use Rattle.elf_image.specs.declared.refusal.ElfRefusal.{ElfRefusal}
@@ -15,7 +16,7 @@ use Rattle.flow_points.specs.declared.refusal.FlowRefusal.{FlowRefusal}
 use Rattle.analyser_core.specs.Accepted.{most_bytes, IsImageOf, HasPoints}
 use Rattle.analyser_core.specs.declared.refusal.Refusal.{Refusal}
 use Rattle.analyser_core.specs.declared.refusal.Refusal.TheVariants.{Elf, Flow, Track, Heads, Memory}
-use Rattle.refusal_lines.specs.Lines.{elf_line, flow_line, too_long_line}
+use Rattle.refusal_lines.specs.Lines.{elf_line, flow_line, heads_line, too_long_line, track_line}
 
 pub data IsRefused (bytes : List ℕ) : ℕ → List ℕ → Type 0 where
   too_long : (status : ℕ) (text : List ℕ) → most_bytes < length bytes → status ≡ 1 → text ≡ too_long_line → IsRefused bytes status text
@@ -35,3 +36,10 @@ IsListRefusal bytes (Flow refusal) = (image : Image) × IsImageOf bytes image ×
 IsListRefusal bytes (Track refusal) = ⊥
 IsListRefusal bytes (Heads limit) = ⊥
 IsListRefusal bytes Memory = Unit {0}
+
+abbrev pub IsLineOf : List ℕ → Refusal → List ℕ → Type 0
+IsLineOf bytes (Elf refusal) text = text ≡ elf_line refusal
+IsLineOf bytes (Flow refusal) text = text ≡ flow_line (unit_of bytes) refusal
+IsLineOf bytes (Track refusal) text = text ≡ track_line refusal
+IsLineOf bytes (Heads limit) text = text ≡ heads_line limit
+IsLineOf bytes Memory text = ⊥

@@ -4,8 +4,8 @@ ghost use Rattle.std.specs.Prelude.{◌≤◌, length, IfOk};
 ghost use Rattle.analyser_core.specs.Accepted.{most_bytes};
 ghost use Rattle.order_answers.specs.Answers.{report_text, IsAnswer};
 
+use crate::causes::refusal_line;
 use analyser_core::analyse_uncounted;
-use refusal_lines::refusal_line;
 use report_text::write_report;
 use std::alloc::{AllocError, Global};
 

@@ -5,9 +5,9 @@ ghost use Rattle.analyser_core.specs.Accepted.{most_bytes};
 ghost use Rattle.order_answers.specs.Answers.{IsAnswer};
 ghost use Rattle.order_answers.specs.CertsText.{certs_text};
 
+use crate::causes::refusal_line;
 use crate::certs_text::write_certs;
 use analyser_core::analyse_uncounted;
-use refusal_lines::refusal_line;
 use std::alloc::{AllocError, Global};
 
 /// What `cert FILE --track LIST` answers over a file with these bytes.

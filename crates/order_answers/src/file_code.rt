@@ -4,10 +4,10 @@ ghost use Rattle.std.specs.Prelude.{◌≤◌, length, IfOk, MatchResult};
 ghost use Rattle.analyser_core.specs.Accepted.{most_bytes};
 ghost use Rattle.order_answers.specs.FileRefusals.{IsRefused, IsCode, IsListRefusal};
 
+use crate::causes::refusal_line;
 use analyser_core::{Refusal, image_of, points_of};
 use elf_image::Image;
 use flow_points::Points;
-use refusal_lines::refusal_line;
 use std::alloc::{AllocError, Global};
 
 /// The image and the points in the bytes of a file.

@@ -5,10 +5,11 @@ ghost use Rattle.analyser_core.specs.Accepted.{most_bytes};
 ghost use Rattle.order_answers.specs.Answers.{IsAnswer, IsGenAnswer};
 ghost use Rattle.order_answers.specs.GenText.{gen_text};
 
+use crate::causes::refusal_line;
 use crate::gen_text::write_summary;
 use analyser_core::analyse_uncounted;
 use gen_elf::{GenRefusal, generate};
-use refusal_lines::{refusal_line, value_line};
+use refusal_lines::value_line;
 use std::alloc::{AllocError, Global};
 
 /// What `gen N --track LIST` answers.

@@ -11,6 +11,7 @@
 #![tactic(auto)]
 
 mod analyse_order;
+mod causes;
 mod cert_order;
 mod certs_text;
 mod file_code;

@@ -13,20 +13,15 @@
 --   too_long_line         the line for a file with too many bytes
 --   most_report_bytes     no report may have more bytes
 --   report_too_long_line  the line for a report with too many bytes
---   IsLineOf bytes refusal text
---                         the text is the line of what these bytes are refused for; want of memory has none
-use Rattle.std.specs.Prelude.{◌≡◌, ℕ, ◌%◌, ◌^◌, List, [], ◌++◌, codes}
+use Rattle.std.specs.Prelude.{ℕ, ◌%◌, ◌^◌, List, [], ◌++◌, codes}
 use Rattle.number_text.specs.Numerals.{dec, hex}
 use Rattle.rv_decode.specs.Registers.{name_of_register}
-use Rattle.elf_image.specs.Fields.{unit_of}
 use Rattle.elf_image.specs.Fetches.{fetch_length}
 use Rattle.elf_image.specs.declared.refusal.ElfRefusal.{ElfRefusal}
 use Rattle.elf_image.specs.declared.refusal.ElfRefusal.TheVariants.{Short, NotElf, NotClass64, NotLittle, NotExec, NotRiscv, Rve, BadHeaderTable, Dynamic, BadSegment, TooManySegments, Overlap, NoCode, Memory}
 use Rattle.flow_points.specs.declared.refusal.FlowRefusal as flows
 use Rattle.flow_points.specs.declared.refusal.FlowRefusal.{FlowRefusal}
 use Rattle.flow_points.specs.declared.refusal.FlowRefusal.TheVariants.{TooManyPoints, OutsideCode, NoInstruction, OddLink, IndirectJump, MisalignedTarget, IntoPair}
-use Rattle.analyser_core.specs.declared.refusal.Refusal as refusals
-use Rattle.analyser_core.specs.declared.refusal.Refusal.{Refusal}
 use Rattle.affine_lift.specs.declared.refusal.TrackRefusal.{TrackRefusal}
 use Rattle.rv_text.specs.Words.{word_text}
 use Rattle.affine_lift.specs.declared.refusal.TrackRefusal as tracks
@@ -96,10 +91,3 @@ most_report_bytes = 2 ^ 28
 
 abbrev pub report_too_long_line : List ℕ
 report_too_long_line = refused (codes "report TooLong 268435456")
-
-abbrev pub IsLineOf : List ℕ → Refusal → List ℕ → Type 0
-IsLineOf bytes (refusals.TheVariants.Elf refusal) text = text ≡ elf_line refusal
-IsLineOf bytes (refusals.TheVariants.Flow refusal) text = text ≡ flow_line (unit_of bytes) refusal
-IsLineOf bytes (refusals.TheVariants.Track refusal) text = text ≡ track_line refusal
-IsLineOf bytes (refusals.TheVariants.Heads limit) text = text ≡ heads_line limit
-IsLineOf bytes refusals.TheVariants.Memory text = ⊥

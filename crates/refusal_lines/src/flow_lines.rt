@@ -6,7 +6,7 @@ ghost use Rattle.rv_decode.specs.Registers.{name_of_register};
 ghost use Rattle.flow_points.specs.declared.refusal.FlowRefusal.TheVariants.{NoInstruction};
 ghost use Rattle.refusal_lines.specs.Lines.{at_address, valued, flow_line};
 
-use crate::lines::value_line;
+use crate::value_lines::value_line;
 use elf_image::fetch_length;
 use flow_points::FlowRefusal;
 use number_text::push_hex;

@@ -3,7 +3,7 @@
 ghost use Rattle.std.specs.Prelude.{◌≡◌, IfOk};
 ghost use Rattle.refusal_lines.specs.Lines.{track_line};
 
-use crate::lines::value_line;
+use crate::value_lines::value_line;
 use affine_lift::TrackRefusal;
 use std::alloc::{AllocError, Global};
 

@@ -1,84 +1,62 @@
 //! Worked reports and certificates, of straight code and of code with calls.
 
-use crate::tests::{CALL, EBREAK, answer_to, file_of, one_file, small_file, words_of};
-use crate::top_call::run;
-use outside::MemSink;
+use crate::calls::{CALL, EBREAK, answer_to, gets};
+use elf_write::{
+    FileHeader, SegmentHeader, file_of_words, push_file_header, push_program_header, push_words,
+};
 use std::alloc::{AllocError, Global};
 use std::test::Fail;
 
-#[test]
-fn relations_of_straight_code(rt: HostRuntime) -> Result<(), Fail> {
-    let alloc = rt.alloc();
-    let triple: &[u32] = &[0x00151593, 0x00A585B3, EBREAK];
-    // The list, the code, and what stands under the line of each point.
-    let cases: [(&str, &[u32], &[&str]); 11] = [
-        ("a0", &[EBREAK], &["none"]),
-        ("a0", &[0x00500513, EBREAK], &["none", "rel 1*a0 -5"]),
-        (
-            "a0,a1",
-            triple,
-            &[
-                "none",
-                "rel 2*a0 +9223372036854775807*a1\nrel 9223372036854775808*a1",
-                "rel 1*a0 +6148914691236517205*a1",
-            ],
-        ),
-        (
-            "a1,a0",
-            triple,
-            &["none", "rel 1*a1 -2*a0", "rel 1*a1 -3*a0"],
-        ),
-        ("a0", &[0x03F51513, EBREAK], &["none", "rel 2*a0"]),
-        (
-            "a0,a1",
-            &[0xFFF54593, EBREAK],
-            &["none", "rel 1*a0 +1*a1 +1"],
-        ),
-        ("a0,a1", &[0x00154593, EBREAK], &["none", "none"]),
-        (
-            "a0",
-            &[0x80000537, EBREAK],
-            &["none", "rel 1*a0 +2147483648"],
-        ),
-        ("a0", &[0x00001517, EBREAK], &["none", "rel 1*a0 -69752"]),
-        (
-            "a0,a1,a2",
-            &[0x40A58633, EBREAK],
-            &["none", "rel 1*a0 -1*a1 +1*a2"],
-        ),
-        (
-            "a0,a1",
-            &[0x00100513, 0x00000073, EBREAK],
-            &["none", "rel 1*a0 -1", "none"],
-        ),
-    ];
-    for (list, code, points) in cases {
-        let mut words = words_of(alloc, "analyse f --track")?;
-        words.push(String::from_str(alloc, list)?)?;
-        let mut files = one_file(alloc, small_file(alloc, code)?, 4096, 0)?;
-        let mut out = MemSink::with_capacity(alloc, 1000, 1000, Vec::new(alloc))
-            .ok()
-            .ok_or("memory")?;
-        assert_eq!(rt; run(alloc, &words, &mut files, &mut out), 0);
-        let report = report_with(alloc, list, points)?;
-        assert_eq!(rt; out.written.as_slice(), report.as_slice());
-    }
-    Ok(())
-}
+const TRIPLE: [u32; 3] = [0x00151593, 0x00A585B3, EBREAK];
 
-const WRAPPED: &str =
-    "affine-report 2\ntrack a0\nproc 0xfffffffffffffff8\nat 0x0\nrel 1*a0 -3\nat 0x4\nrel 1*a0 -24\nat 0xfffffffffffffff8\nnone\nat 0xfffffffffffffffc\nrel 1*a0 -1\nend\n";
+// The list, the code, and what stands under the line of each point.
+const RELATIONS: [(&str, &[u32], &[&str]); 11] = [
+    ("a0", &[EBREAK], &["none"]),
+    ("a0", &[0x00500513, EBREAK], &["none", "rel 1*a0 -5"]),
+    (
+        "a0,a1",
+        &TRIPLE,
+        &[
+            "none",
+            "rel 2*a0 +9223372036854775807*a1\nrel 9223372036854775808*a1",
+            "rel 1*a0 +6148914691236517205*a1",
+        ],
+    ),
+    (
+        "a1,a0",
+        &TRIPLE,
+        &["none", "rel 1*a1 -2*a0", "rel 1*a1 -3*a0"],
+    ),
+    ("a0", &[0x03F51513, EBREAK], &["none", "rel 2*a0"]),
+    (
+        "a0,a1",
+        &[0xFFF54593, EBREAK],
+        &["none", "rel 1*a0 +1*a1 +1"],
+    ),
+    ("a0,a1", &[0x00154593, EBREAK], &["none", "none"]),
+    (
+        "a0",
+        &[0x80000537, EBREAK],
+        &["none", "rel 1*a0 +2147483648"],
+    ),
+    ("a0", &[0x00001517, EBREAK], &["none", "rel 1*a0 -69752"]),
+    (
+        "a0,a1,a2",
+        &[0x40A58633, EBREAK],
+        &["none", "rel 1*a0 -1*a1 +1*a2"],
+    ),
+    (
+        "a0,a1",
+        &[0x00100513, 0x00000073, EBREAK],
+        &["none", "rel 1*a0 -1", "none"],
+    ),
+];
 
-#[test]
-fn straight_code_goes_on_at_address_0(rt: HostRuntime) -> Result<(), Fail> {
-    let alloc = rt.alloc();
-    let segments = [[176, u64::MAX - 7, 8], [184, 0, 8]];
-    let words = [0x00100513, 0x00250513, 0x00351513, EBREAK];
-    let bytes = file_of(alloc, u64::MAX - 7, &segments, &words)?;
-    let (status, written) = answer_to(alloc, "analyse f --track a0", bytes, 4096)?;
-    assert_eq!(rt; status, 0);
-    assert_eq!(rt; written.as_slice(), WRAPPED.as_bytes());
-    Ok(())
+// The order's words, with the list last.
+fn order_of(alloc: Global, words: &str, list: &str) -> Result<String, AllocError> {
+    let mut order = String::from_str(alloc, words)?;
+    order.push_str(list)?;
+    Ok(order)
 }
 
 // The report of a small file, by what stands under the line of each point.
@@ -87,12 +65,97 @@ fn report_with(alloc: Global, list: &str, points: &[&str]) -> Result<Vec<u8>, Al
     report.extend_from_slice(list.as_bytes())?;
     report.extend_from_slice(b"\nproc 0x10078\n")?;
     for (address, point) in ["0x10078", "0x1007c", "0x10080"].iter().zip(points) {
-        for text in ["at ", address, "\n", point, "\n"] {
-            report.extend_from_slice(text.as_bytes())?;
-        }
+        push_point(&mut report, address, point)?;
     }
     report.extend_from_slice(b"end\n")?;
     Ok(report)
+}
+
+fn push_point(report: &mut Vec<u8>, address: &str, point: &str) -> Result<(), AllocError> {
+    report.extend_from_slice(b"at ")?;
+    report.extend_from_slice(address.as_bytes())?;
+    report.extend_from_slice(b"\n")?;
+    report.extend_from_slice(point.as_bytes())?;
+    report.extend_from_slice(b"\n")
+}
+
+fn tells(alloc: Global, list: &str, code: &[u32], points: &[&str]) -> Result<bool, Fail> {
+    let order = order_of(alloc, "analyse f --track ", list)?;
+    let report = report_with(alloc, list, points)?;
+    gets(
+        alloc,
+        order.as_str(),
+        file_of_words(alloc, code)?,
+        0,
+        &report,
+    )
+}
+
+fn all_tell(alloc: Global, cases: &[(&str, &[u32], &[&str])]) -> Result<bool, Fail> {
+    for (list, code, points) in cases.iter() {
+        if !tells(alloc, list, code, points)? {
+            return Ok(false);
+        }
+    }
+    Ok(true)
+}
+
+#[test]
+fn relations_of_straight_code(rt: HostRuntime) -> Result<(), Fail> {
+    assert!(rt; all_tell(rt.alloc(), &RELATIONS)?);
+    Ok(())
+}
+
+const WRAPPED: &str =
+    "affine-report 2\ntrack a0\nproc 0xfffffffffffffff8\nat 0x0\nrel 1*a0 -3\nat 0x4\nrel 1*a0 -24\nat 0xfffffffffffffff8\nnone\nat 0xfffffffffffffffc\nrel 1*a0 -1\nend\n";
+
+// A file of two segments, of which the second begins at address 0, behind the first.
+fn wrapped_file(alloc: Global) -> Result<Vec<u8>, AllocError> {
+    let mut bytes = Vec::new(alloc);
+    push_file_header(
+        &mut bytes,
+        &FileHeader {
+            entry: u64::MAX - 7,
+            flags: 0,
+            segments: 2,
+            sections_at: 0,
+            sections: 0,
+            names_section: 0,
+        },
+    )?;
+    for place in [(176, u64::MAX - 7), (184, 0)].iter() {
+        push_segment(&mut bytes, place.0, place.1)?;
+    }
+    push_words(&mut bytes, &[0x00100513, 0x00250513, 0x00351513, EBREAK])?;
+    Ok(bytes)
+}
+
+fn push_segment(bytes: &mut Vec<u8>, offset: u64, address: u64) -> Result<(), AllocError> {
+    push_program_header(
+        bytes,
+        &SegmentHeader {
+            offset,
+            address,
+            stored: 8,
+            size: 8,
+            flags: 5,
+        },
+    )
+}
+
+#[test]
+fn straight_code_goes_on_at_address_0(rt: HostRuntime) -> Result<(), Fail> {
+    let alloc = rt.alloc();
+    assert!(rt;
+        gets(
+            alloc,
+            "analyse f --track a0",
+            wrapped_file(alloc)?,
+            0,
+            WRAPPED.as_bytes()
+        )?
+    );
+    Ok(())
 }
 
 // The worked reports: calls, recursion with a slot, a loop, code behind a call that doesn't return.
@@ -155,36 +218,20 @@ const FRAME_POINTER: &str =
 
 const NEVER: &str = "proc 0x10078\nsp never\nproc 0x10080\nsp never\n";
 
-#[test]
-fn certificates_of_code_with_calls(rt: HostRuntime) -> Result<(), Fail> {
-    let alloc = rt.alloc();
-    // The list, the code, and what stands for its procedures.
-    let cases: [(&str, &[u32], &str); 7] = [
-        ("sp,ra,0x10080:-8", &RECURSION_CODE, GIVEN_BACK),
-        ("sp,ra", &RECURSION_CODE, LOST),
-        ("sp,ra,0x10080:-8", &INTO_SLOT_CODE, LOST),
-        ("sp,ra,0x10080:-8", &BESIDE_SLOT_CODE, GIVEN_BACK),
-        ("sp,ra,s0,a0,0x1008c:-8,0x1008c:-16", &FRAME_CODE, SAVED),
-        (
-            "sp,ra,s0,0x10080:-8,0x10080:-16",
-            &FRAME_POINTER_CODE,
-            FRAME_POINTER,
-        ),
-        ("sp", &NO_RETURN_CODE, NEVER),
-    ];
-    for (list, code, procedures) in cases {
-        let mut words = words_of(alloc, "cert f --track")?;
-        words.push(String::from_str(alloc, list)?)?;
-        let mut files = one_file(alloc, small_file(alloc, code)?, 4096, 0)?;
-        let mut out = MemSink::with_capacity(alloc, 1000, 1000, Vec::new(alloc))
-            .ok()
-            .ok_or("memory")?;
-        assert_eq!(rt; run(alloc, &words, &mut files, &mut out), 0);
-        let text = certs_with(alloc, list, procedures)?;
-        assert_eq!(rt; out.written.as_slice(), text.as_slice());
-    }
-    Ok(())
-}
+// The list, the code, and what stands for its procedures.
+const CERTIFICATES: [(&str, &[u32], &str); 7] = [
+    ("sp,ra,0x10080:-8", &RECURSION_CODE, GIVEN_BACK),
+    ("sp,ra", &RECURSION_CODE, LOST),
+    ("sp,ra,0x10080:-8", &INTO_SLOT_CODE, LOST),
+    ("sp,ra,0x10080:-8", &BESIDE_SLOT_CODE, GIVEN_BACK),
+    ("sp,ra,s0,a0,0x1008c:-8,0x1008c:-16", &FRAME_CODE, SAVED),
+    (
+        "sp,ra,s0,0x10080:-8,0x10080:-16",
+        &FRAME_POINTER_CODE,
+        FRAME_POINTER,
+    ),
+    ("sp", &NO_RETURN_CODE, NEVER),
+];
 
 // The certificates of a file, by what stands for its procedures.
 fn certs_with(alloc: Global, list: &str, procedures: &str) -> Result<Vec<u8>, AllocError> {
@@ -196,49 +243,80 @@ fn certs_with(alloc: Global, list: &str, procedures: &str) -> Result<Vec<u8>, Al
     Ok(text)
 }
 
+fn certifies(alloc: Global, list: &str, code: &[u32], procedures: &str) -> Result<bool, Fail> {
+    let order = order_of(alloc, "cert f --track ", list)?;
+    let text = certs_with(alloc, list, procedures)?;
+    gets(alloc, order.as_str(), file_of_words(alloc, code)?, 0, &text)
+}
+
+fn all_certify(alloc: Global, cases: &[(&str, &[u32], &str)]) -> Result<bool, Fail> {
+    for (list, code, procedures) in cases.iter() {
+        if !certifies(alloc, list, code, procedures)? {
+            return Ok(false);
+        }
+    }
+    Ok(true)
+}
+
+#[test]
+fn certificates_of_code_with_calls(rt: HostRuntime) -> Result<(), Fail> {
+    assert!(rt; all_certify(rt.alloc(), &CERTIFICATES)?);
+    Ok(())
+}
+
+// The list, the code and the report.
+const REPORTS: [(&str, &[u32], &str); 5] = [
+    ("sp,ra,0x10080:-8", &RECURSION_CODE, RECURSION),
+    ("sp,ra,s0,a0,0x1008c:-8,0x1008c:-16", &FRAME_CODE, FRAME),
+    // addi a0,zero,0; addi a0,a0,8; bne a0,a1,-4; ebreak
+    ("a0", &[0x00000513, 0x00850513, 0xFEB51EE3, EBREAK], LOOP),
+    ("sp", &NO_RETURN_CODE, NO_RETURN),
+    ("ra", &CALL, PAIR),
+];
+
+fn all_report(alloc: Global, cases: &[(&str, &[u32], &str)]) -> Result<bool, Fail> {
+    for (list, code, report) in cases.iter() {
+        let order = order_of(alloc, "analyse f --track ", list)?;
+        if !gets(
+            alloc,
+            order.as_str(),
+            file_of_words(alloc, code)?,
+            0,
+            report.as_bytes(),
+        )? {
+            return Ok(false);
+        }
+    }
+    Ok(true)
+}
+
 #[test]
 fn reports_of_code_with_calls(rt: HostRuntime) -> Result<(), Fail> {
-    let alloc = rt.alloc();
-    let cases: [(&str, &[u32], &str); 5] = [
-        ("sp,ra,0x10080:-8", &RECURSION_CODE, RECURSION),
-        ("sp,ra,s0,a0,0x1008c:-8,0x1008c:-16", &FRAME_CODE, FRAME),
-        // addi a0,zero,0; addi a0,a0,8; bne a0,a1,-4; ebreak
-        ("a0", &[0x00000513, 0x00850513, 0xFEB51EE3, EBREAK], LOOP),
-        ("sp", &NO_RETURN_CODE, NO_RETURN),
-        ("ra", &CALL, PAIR),
-    ];
-    for (list, code, report) in cases {
-        let mut words = words_of(alloc, "analyse f --track")?;
-        words.push(String::from_str(alloc, list)?)?;
-        let mut files = one_file(alloc, small_file(alloc, code)?, 4096, 0)?;
-        let mut out = MemSink::with_capacity(alloc, 2000, 2000, Vec::new(alloc))
-            .ok()
-            .ok_or("memory")?;
-        assert_eq!(rt; run(alloc, &words, &mut files, &mut out), 0);
-        assert_eq!(rt; out.written.as_slice(), report.as_bytes());
-    }
+    assert!(rt; all_report(rt.alloc(), &REPORTS)?);
     Ok(())
 }
 
 // Branches that each go on at the next word and the one behind it, and two ends: a head for each point.
 fn branches(alloc: Global, count: usize) -> Result<Vec<u8>, AllocError> {
-    let mut words = Vec::new(alloc);
-    for _ in 0..count {
-        words.push(0x00050463)?;
-    }
+    let mut words = vec![in alloc; 0x00050463; count]?;
     words.extend_from_slice(&[EBREAK, EBREAK])?;
-    small_file(alloc, &words)
+    file_of_words(alloc, &words)
 }
 
 #[test]
 fn heads_at_the_limit(rt: HostRuntime) -> Result<(), Fail> {
     let alloc = rt.alloc();
-    let few = branches(alloc, 4093)?;
-    let (status, _) = answer_to(alloc, "cert f --track a0", few, 4096)?;
+    let (status, _) = answer_to(alloc, "cert f --track a0", branches(alloc, 4093)?, 4096)?;
     assert_eq!(rt; status, 0);
     let many = branches(alloc, 4094)?;
-    let (status, text) = answer_to(alloc, "analyse f --track a0", many, 4096)?;
-    assert_eq!(rt; status, 1);
-    assert_eq!(rt; text.as_slice(), b"refused TooManyHeads 4096\n".as_slice());
+    assert!(rt;
+        gets(
+            alloc,
+            "analyse f --track a0",
+            many,
+            1,
+            b"refused TooManyHeads 4096\n"
+        )?
+    );
     Ok(())
 }

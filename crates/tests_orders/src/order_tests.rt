@@ -1,103 +1,20 @@
 //! Whole orders over files and sinks in memory, and over those of the system.
 
-ghost use Rattle.std.specs.Prelude.{◌≢◌, ◌≤◌};
+ghost use Rattle.std.specs.Prelude.{◌≤◌};
 
-use crate::top_call::{run, run_with};
-use outside::{CleanFiles, CleanSink, DiskFiles, Files, MemFile, MemFiles, MemSink, Sink, StdSink};
-use std::alloc::{AllocError, Global};
+use crate::calls::{CALL, EBREAK, USAGE, answer_to, gets, one_file, words_of};
+use elf_write::file_of_words;
+use outside::{DiskFiles, StdSink};
+use outside_fakes::{CleanFiles, CleanSink, MemSink};
+use std::alloc::Global;
 use std::io::ErrorKind;
 use std::process::ExitCode;
 use std::test::Fail;
 use std::{env, fs, io, process};
+use top_call::{run, run_with};
 
-/// Over files that never fail, no answer is a read fault, whatever the sink does.
-fn over_clean_files<K: Sink>(
-    alloc: Global,
-    words: &[String],
-    files: &mut CleanFiles,
-    out: &mut K,
-) -> u8
-    ensures { result ≢ 3 }
-{
-    run(alloc, words, files, out)
-}
-
-/// Over a sink that never fails, no answer is a write fault, whatever the files do.
-fn over_a_clean_sink<F: Files>(
-    alloc: Global,
-    words: &[String],
-    files: &mut F,
-    out: &mut CleanSink,
-) -> u8
-    ensures { result ≢ 4 }
-{
-    run(alloc, words, files, out)
-}
-
-// A file with these segments, each by its offset, address and size, and with words behind its headers.
-pub(crate) fn file_of(
-    alloc: Global,
-    entry: u64,
-    segments: &[[u64; 3]],
-    words: &[u32],
-) -> Result<Vec<u8>, AllocError> {
-    let mut bytes = Vec::new(alloc);
-    bytes.extend_from_slice(&[0x7f, 0x45, 0x4c, 0x46, 2, 1, 1, 0, 0, 0, 0, 0, 0, 0, 0, 0])?;
-    bytes.extend_from_slice(&[2, 0, 243, 0, 1, 0, 0, 0])?;
-    for field in [entry, 64, 0] {
-        bytes.extend_from_slice(&u64::to_le_bytes(field))?;
-    }
-    bytes.extend_from_slice(&[0, 0, 0, 0, 64, 0, 56, 0])?;
-    bytes.extend_from_slice(&(segments.len() as u64).to_le_bytes())?;
-    for [offset, address, size] in segments {
-        bytes.extend_from_slice(&[1, 0, 0, 0, 5, 0, 0, 0])?;
-        for field in [*offset, *address, *address, *size, *size, 0x1000] {
-            bytes.extend_from_slice(&u64::to_le_bytes(field))?;
-        }
-    }
-    for word in words {
-        bytes.extend_from_slice(&word.to_le_bytes())?;
-    }
-    Ok(bytes)
-}
-
-// The small file with these code words.
-pub(crate) fn small_file(alloc: Global, words: &[u32]) -> Result<Vec<u8>, AllocError> {
-    let size = (words.len() as u64).wrapping_mul(4).wrapping_add(120);
-    file_of(alloc, 0x10078, &[[0, 0x10000, size]], words)
-}
-
-pub(crate) fn words_of(alloc: Global, order: &str) -> Result<Vec<String>, AllocError> {
-    let mut words = Vec::new(alloc);
-    for word in order.split(' ') {
-        words.push(String::from_str(alloc, word)?)?;
-    }
-    Ok(words)
-}
-
-// Files in memory: one file `f` with these bytes, read in pieces, whose call `fails` fails.
-pub(crate) fn one_file(
-    alloc: Global,
-    bytes: Vec<u8>,
-    piece: usize,
-    fails: u64,
-) -> Result<MemFiles, AllocError>
-    requires { 1 ≤ piece }
-{
-    let name = String::from_str(alloc, "f")?;
-    let file = MemFile {
-        name,
-        contents: bytes,
-        faults: 0,
-    };
-    Ok(MemFiles {
-        files: vec![in alloc; file]?,
-        piece,
-        fails: vec![in alloc; fails]?,
-        calls: 0,
-        faults: 0,
-    })
-}
+/// addi a0,zero,5; ebreak
+const FIVE: [u32; 2] = [0x00500513, EBREAK];
 
 const REPORT: &str =
     "affine-report 2\ntrack a0\nproc 0x10078\nat 0x10078\nnone\nat 0x1007c\nrel 1*a0 -5\nend\n";
@@ -105,118 +22,143 @@ const REPORT: &str =
 const LIST: &str =
     "affine-list 1\nproc 0x10078\n0x10078 00500513 addi a0,zero,5\n0x1007c 00100073 ebreak\nend\n";
 
-pub(crate) const USAGE: &str =
-    "usage:\nanalyse FILE --track LIST\ncert FILE --track LIST\nlist FILE\nrun FILE REPORT --steps N [--regs R]\ngen N --track LIST\nupgrade FILE REPORT\n";
+// The order, how many bytes of the file there are, the status and the text.
+const ORDERS: [(&str, usize, u8, &str); 28] = [
+    ("analyse f --track x10", 128, 0, REPORT),
+    ("analyse --track=a0 f", 128, 0, REPORT),
+    ("list f", 128, 0, LIST),
+    ("cert f --track s0,fp", 128, 1, "refused Repeated 2\n"),
+    ("cert g --track a0", 128, 3, "read fault\n"),
+    ("cert f", 128, 2, USAGE),
+    ("analyse f --track ", 128, 1, "refused Empty\n"),
+    (
+        "analyse f --track a0,a1,a2,a3,a4,a5,a6,a7,s0,s1,s2,s3,s4,s5,s6,s7,s8",
+        128,
+        1,
+        "refused TooMany 16\n",
+    ),
+    ("analyse f --track s0,fp", 128, 1, "refused Repeated 2\n"),
+    ("analyse f --track zero", 128, 1, "refused UnknownName 1\n"),
+    (
+        "analyse f --track a0,,a1",
+        128,
+        1,
+        "refused UnknownName 2\n",
+    ),
+    ("analyse f --track ,", 128, 1, "refused UnknownName 1\n"),
+    (
+        "analyse f --track a0,0x10078:-12",
+        128,
+        1,
+        "refused BadSlot 2\n",
+    ),
+    (
+        "analyse f --track 0x10078:-2056",
+        128,
+        1,
+        "refused BadSlot 1\n",
+    ),
+    (
+        "analyse f --track 0x9999:-8",
+        128,
+        1,
+        "refused NoSuchProcedure 1\n",
+    ),
+    (
+        "analyse f --track main:-8",
+        128,
+        1,
+        "refused UnknownName 1\n",
+    ),
+    (
+        "analyse f --track a0",
+        63,
+        1,
+        "refused Short 63 at offset 63\n",
+    ),
+    ("list f", 0, 1, "refused Short 0 at offset 0\n"),
+    ("list f", 64, 1, "refused BadHeaderTable at offset 32\n"),
+    ("list f", 127, 1, "refused BadSegment at offset 64\n"),
+    ("list g", 128, 3, "read fault\n"),
+    ("analyse g --track a0", 128, 3, "read fault\n"),
+    ("frob", 128, 2, USAGE),
+    ("list", 128, 2, USAGE),
+    ("list -f", 128, 2, USAGE),
+    ("list f f", 128, 2, USAGE),
+    ("analyse f --track", 128, 2, USAGE),
+    ("analyse f --track -a0", 128, 2, USAGE),
+];
 
-pub(crate) const EBREAK: u32 = 0x00100073;
-
-// The status and the text of an order over the file `f` with these bytes, read in pieces.
-pub(crate) fn answer_to(
+// Whether the order gets this status and text over the first bytes of the file, whatever the pieces.
+fn gets_in_pieces(
     alloc: Global,
     order: &str,
-    bytes: Vec<u8>,
-    piece: usize,
-) -> Result<(u8, Vec<u8>), Fail>
-    requires { 1 ≤ piece }
-{
-    let words = words_of(alloc, order)?;
-    let mut files = one_file(alloc, bytes, piece, 0)?;
-    let mut out = MemSink::with_capacity(alloc, 1000, piece, Vec::new(alloc))
-        .ok()
-        .ok_or("memory")?;
-    let status = run(alloc, &words, &mut files, &mut out);
-    Ok((status, out.written))
+    length: usize,
+    status: u8,
+    text: &str,
+) -> Result<bool, Fail> {
+    for piece in [1, 64, 4096] {
+        let mut bytes = file_of_words(alloc, &FIVE)?;
+        bytes.truncate(length);
+        let (answer, written) = answer_to(alloc, order, bytes, piece)?;
+        if answer != status || written.as_slice() != text.as_bytes() {
+            return Ok(false);
+        }
+    }
+    Ok(true)
+}
+
+fn all_get(alloc: Global, cases: &[(&str, usize, u8, &str)]) -> Result<bool, Fail> {
+    for (order, length, status, text) in cases.iter() {
+        if !gets_in_pieces(alloc, order, *length, *status, text)? {
+            return Ok(false);
+        }
+    }
+    Ok(true)
 }
 
 #[test]
 fn orders_get_their_texts(rt: HostRuntime) -> Result<(), Fail> {
-    let alloc = rt.alloc();
-    let cases: [(&str, usize, u8, &str); 28] = [
-        ("analyse f --track x10", 128, 0, REPORT),
-        ("analyse --track=a0 f", 128, 0, REPORT),
-        ("list f", 128, 0, LIST),
-        ("cert f --track s0,fp", 128, 1, "refused Repeated 2\n"),
-        ("cert g --track a0", 128, 3, "read fault\n"),
-        ("cert f", 128, 2, USAGE),
-        ("analyse f --track ", 128, 1, "refused Empty\n"),
-        (
-            "analyse f --track a0,a1,a2,a3,a4,a5,a6,a7,s0,s1,s2,s3,s4,s5,s6,s7,s8",
-            128,
+    assert!(rt; all_get(rt.alloc(), &ORDERS)?);
+    Ok(())
+}
+
+// Code that is refused, and the text.
+const REFUSED: [([u32; 2], &str); 3] = [
+    ([0x00000513, 0x0080006F], "refused OutsideCode at 0x10084\n"),
+    ([0x00000513, 0x00000513], "refused OutsideCode at 0x10080\n"),
+    ([0, EBREAK], "refused NoInstruction 00000000 at 0x10078\n"),
+];
+
+const OVER_FILES: [&str; 3] = ["list f", "analyse f --track a0", "cert f --track a0"];
+
+fn each_refuses(alloc: Global, code: &[u32], text: &str) -> Result<bool, Fail> {
+    for order in OVER_FILES.iter() {
+        if !gets(
+            alloc,
+            order,
+            file_of_words(alloc, code)?,
             1,
-            "refused TooMany 16\n",
-        ),
-        ("analyse f --track s0,fp", 128, 1, "refused Repeated 2\n"),
-        ("analyse f --track zero", 128, 1, "refused UnknownName 1\n"),
-        (
-            "analyse f --track a0,,a1",
-            128,
-            1,
-            "refused UnknownName 2\n",
-        ),
-        ("analyse f --track ,", 128, 1, "refused UnknownName 1\n"),
-        (
-            "analyse f --track a0,0x10078:-12",
-            128,
-            1,
-            "refused BadSlot 2\n",
-        ),
-        (
-            "analyse f --track 0x10078:-2056",
-            128,
-            1,
-            "refused BadSlot 1\n",
-        ),
-        (
-            "analyse f --track 0x9999:-8",
-            128,
-            1,
-            "refused NoSuchProcedure 1\n",
-        ),
-        (
-            "analyse f --track main:-8",
-            128,
-            1,
-            "refused UnknownName 1\n",
-        ),
-        (
-            "analyse f --track a0",
-            63,
-            1,
-            "refused Short 63 at offset 63\n",
-        ),
-        ("list f", 0, 1, "refused Short 0 at offset 0\n"),
-        ("list f", 64, 1, "refused BadHeaderTable at offset 32\n"),
-        ("list f", 127, 1, "refused BadSegment at offset 64\n"),
-        ("list g", 128, 3, "read fault\n"),
-        ("analyse g --track a0", 128, 3, "read fault\n"),
-        ("frob", 128, 2, USAGE),
-        ("list", 128, 2, USAGE),
-        ("list -f", 128, 2, USAGE),
-        ("list f f", 128, 2, USAGE),
-        ("analyse f --track", 128, 2, USAGE),
-        ("analyse f --track -a0", 128, 2, USAGE),
-    ];
-    for (order, length, status, text) in cases {
-        for piece in [1, 64, 4096] {
-            let mut bytes = small_file(alloc, &[0x00500513, EBREAK])?;
-            bytes.truncate(length);
-            let (answer, written) = answer_to(alloc, order, bytes, piece)?;
-            assert_eq!(rt; answer, status, "{order}");
-            assert_eq!(rt; written.as_slice(), text.as_bytes(), "{order}");
+            text.as_bytes(),
+        )? {
+            return Ok(false);
         }
     }
-    // Code that is refused.
-    for (code, text) in [
-        ([0x00000513, 0x0080006F], "refused OutsideCode at 0x10084\n"),
-        ([0x00000513, 0x00000513], "refused OutsideCode at 0x10080\n"),
-        ([0, EBREAK], "refused NoInstruction 00000000 at 0x10078\n"),
-    ] {
-        for order in ["list f", "analyse f --track a0", "cert f --track a0"] {
-            let (status, written) = answer_to(alloc, order, small_file(alloc, &code)?, 4096)?;
-            assert_eq!(rt; status, 1);
-            assert_eq!(rt; written.as_slice(), text.as_bytes());
+    Ok(true)
+}
+
+fn all_refuse(alloc: Global, cases: &[([u32; 2], &str)]) -> Result<bool, Fail> {
+    for (code, text) in cases.iter() {
+        if !each_refuses(alloc, code, text)? {
+            return Ok(false);
         }
     }
+    Ok(true)
+}
+
+#[test]
+fn each_order_over_a_file_refuses_its_code(rt: HostRuntime) -> Result<(), Fail> {
+    assert!(rt; all_refuse(rt.alloc(), &REFUSED)?);
     Ok(())
 }
 
@@ -240,106 +182,165 @@ const MADE: [(&str, u8, &str); 7] = [
     ("gen 007 --track a0", 2, USAGE),
 ];
 
-#[test]
-fn generated_files(rt: HostRuntime) -> Result<(), Fail> {
-    for (order, status, text) in MADE {
-        let (answer, written) = answer_to(rt.alloc(), order, Vec::new(rt.alloc()), 4096)?;
-        assert_eq!(rt; answer, status, "{order}");
-        assert_eq!(rt; written.as_slice(), text.as_bytes(), "{order}");
+fn all_made(alloc: Global, cases: &[(&str, u8, &str)]) -> Result<bool, Fail> {
+    for (order, status, text) in cases.iter() {
+        if !gets(alloc, order, Vec::new(alloc), *status, text.as_bytes())? {
+            return Ok(false);
+        }
     }
-    Ok(())
+    Ok(true)
 }
 
-pub(crate) const CALL: [u32; 4] = [0x00000097, 0x00c080e7, EBREAK, 0x00008067];
+#[test]
+fn generated_files(rt: HostRuntime) -> Result<(), Fail> {
+    assert!(rt; all_made(rt.alloc(), &MADE)?);
+    Ok(())
+}
 
 const CALL_LIST: &str =
     "affine-list 1\nproc 0x10078\n0x10078 00000097 auipc ra,0x0\n0x1007c 00c080e7 jalr ra,12(ra)\n0x10080 00100073 ebreak\nproc 0x10084\n0x10084 00008067 jalr zero,0(ra)\nend\n";
 
+// The code, and the status and the text of its list.
+const FLOWS: [(&[u32], u8, &str); 5] = [
+    (&CALL, 0, CALL_LIST),
+    // jal ra,12; jalr zero,0(t0); ebreak; jalr zero,0(t1)
+    (
+        &[0x00c000ef, 0x00028067, EBREAK, 0x00030067],
+        1,
+        "refused IndirectJump t0 at 0x1007c\n",
+    ),
+    // jal t0,8
+    (&[0x008002ef], 1, "refused OddLink t0 at 0x10078\n"),
+    // jal zero,2
+    (
+        &[0x0020006f],
+        1,
+        "refused MisalignedTarget 0x1007a at 0x10078\n",
+    ),
+    // beq a0,zero,8 before a pair
+    (
+        &[0x00050463, 0x00000097, 0x00c080e7, EBREAK, 0x00008067],
+        1,
+        "refused IntoPair at 0x10080\n",
+    ),
+];
+
+fn all_list(alloc: Global, cases: &[(&[u32], u8, &str)]) -> Result<bool, Fail> {
+    for (code, status, text) in cases.iter() {
+        if !gets(
+            alloc,
+            "list f",
+            file_of_words(alloc, code)?,
+            *status,
+            text.as_bytes(),
+        )? {
+            return Ok(false);
+        }
+    }
+    Ok(true)
+}
+
 #[test]
 fn flow_of_files(rt: HostRuntime) -> Result<(), Fail> {
-    let alloc = rt.alloc();
-    let many = vec![in alloc; 0x00050513; 4095]?;
-    let mut too_many = vec![in alloc; 0x00050513; 16384]?;
-    too_many.push(EBREAK)?;
-    let cases: [(&[u32], u8, &str); 7] = [
-        (&CALL, 0, CALL_LIST),
-        // jal ra,12; jalr zero,0(t0); ebreak; jalr zero,0(t1)
-        (
-            &[0x00c000ef, 0x00028067, EBREAK, 0x00030067],
-            1,
-            "refused IndirectJump t0 at 0x1007c\n",
-        ),
-        // jal t0,8
-        (&[0x008002ef], 1, "refused OddLink t0 at 0x10078\n"),
-        // jal zero,2
-        (
-            &[0x0020006f],
-            1,
-            "refused MisalignedTarget 0x1007a at 0x10078\n",
-        ),
-        // beq a0,zero,8 before a pair
-        (
-            &[0x00050463, 0x00000097, 0x00c080e7, EBREAK, 0x00008067],
-            1,
-            "refused IntoPair at 0x10080\n",
-        ),
-        (&too_many, 1, "refused TooManyPoints 16384\n"),
-        (&many, 1, "refused OutsideCode at 0x14074\n"),
-    ];
-    for (code, status, text) in cases {
-        let (answer, written) = answer_to(alloc, "list f", small_file(alloc, code)?, 4096)?;
-        assert_eq!(rt; answer, status, "{text}");
-        assert_eq!(rt; written.as_slice(), text.as_bytes(), "{text}");
-    }
+    assert!(rt; all_list(rt.alloc(), &FLOWS)?);
     Ok(())
 }
 
 #[test]
-fn faults_have_their_status(rt: HostRuntime) -> Result<(), Fail> {
+fn many_points(rt: HostRuntime) -> Result<(), Fail> {
     let alloc = rt.alloc();
+    let mut words = vec![in alloc; 0x00050513; 16384]?;
+    words.push(EBREAK)?;
+    let bytes = file_of_words(alloc, &words)?;
+    assert!(rt; gets(alloc, "list f", bytes, 1, b"refused TooManyPoints 16384\n")?);
+    words.truncate(4095);
+    let bytes = file_of_words(alloc, &words)?;
+    assert!(rt;
+        gets(
+            alloc,
+            "list f",
+            bytes,
+            1,
+            b"refused OutsideCode at 0x14074\n"
+        )?
+    );
+    Ok(())
+}
+
+// The call of read that fails, the call of put that fails, the status and what is written.
+const FAULTS: [(u64, u64, u8, &str); 4] = [
+    (1, 0, 3, "read fault\n"),
+    (0, 2, 4, "affine-rep"),
+    (2, 1, 4, ""),
+    (0, 0, 0, REPORT),
+];
+
+fn ends_so(alloc: Global, read: u64, put: u64, status: u8, text: &str) -> Result<bool, Fail> {
     let words = words_of(alloc, "analyse f --track a0")?;
-    // The call of read that fails, the call of put that fails, the status and what is written.
-    let cases = [
-        (1, 0, 3, "read fault\n"),
-        (0, 2, 4, "affine-rep"),
-        (2, 1, 4, ""),
-        (0, 0, 0, REPORT),
-    ];
-    for (read, put, status, text) in cases {
-        let bytes = small_file(alloc, &[0x00500513, 0x00100073])?;
-        let mut files = one_file(alloc, bytes, 64, read)?;
-        let mut out = MemSink::with_capacity(alloc, 1000, 10, vec![in alloc; put]?)
-            .ok()
-            .ok_or("memory")?;
-        assert_eq!(rt; run(alloc, &words, &mut files, &mut out), status);
-        assert_eq!(rt; out.written.as_slice(), text.as_bytes());
-    }
-    // A file with a byte too many, and no words at all.
-    let mut files = one_file(alloc, vec![in alloc; 0; (1 << 24) + 1]?, 1 << 20, 0)?;
-    let mut out = MemSink::with_capacity(alloc, 1000, 1000, Vec::new(alloc))
+    let mut files = one_file(alloc, file_of_words(alloc, &FIVE)?, 64, read)?;
+    let mut out = MemSink::with_capacity(alloc, 1000, 10, vec![in alloc; put]?)
         .ok()
         .ok_or("memory")?;
-    assert_eq!(rt; run(alloc, &words, &mut files, &mut out), 1);
-    assert_eq!(rt;
-        out.written.as_slice(),
-        b"refused TooLong 16777216\n".as_slice()
-    );
+    let answer = run(alloc, &words, &mut files, &mut out);
+    Ok(answer == status && out.written.as_slice() == text.as_bytes())
+}
+
+fn all_end_so(alloc: Global, cases: &[(u64, u64, u8, &str)]) -> Result<bool, Fail> {
+    for (read, put, status, text) in cases.iter() {
+        if !ends_so(alloc, *read, *put, *status, text)? {
+            return Ok(false);
+        }
+    }
+    Ok(true)
+}
+
+#[test]
+fn faults_have_their_status(rt: HostRuntime) -> Result<(), Fail> {
+    assert!(rt; all_end_so(rt.alloc(), &FAULTS)?);
+    Ok(())
+}
+
+#[test]
+fn a_file_with_a_byte_too_many(rt: HostRuntime) -> Result<(), Fail> {
+    let alloc = rt.alloc();
+    let bytes = vec![in alloc; 0; (1 << 24) + 1]?;
+    let (status, text) = answer_to(alloc, "analyse f --track a0", bytes, 1 << 20)?;
+    assert_eq!(rt; status, 1);
+    assert_eq!(rt; text.as_slice(), b"refused TooLong 16777216\n".as_slice());
+    Ok(())
+}
+
+#[test]
+fn no_words_at_all(rt: HostRuntime) -> Result<(), Fail> {
+    let alloc = rt.alloc();
     let mut sink = CleanSink { taken: 0 };
     let mut none = CleanFiles {
         files: Vec::new(alloc),
     };
-    assert_eq!(rt; over_clean_files(alloc, &[], &mut none, &mut sink), 2);
-    assert_eq!(rt; over_a_clean_sink(alloc, &[], &mut none, &mut sink), 2);
+    assert_eq!(rt; run(alloc, &[], &mut none, &mut sink), 2);
+    assert_eq!(rt; run(alloc, &[], &mut none, &mut sink), 2);
     assert_eq!(rt; sink.taken, 284);
-    // What can't be had of the arguments: no memory for them, or no text.
-    for (kind, status, taken) in [
-        (ErrorKind::OutOfMemory, 5, 298),
-        (ErrorKind::InvalidData, 2, 440),
-    ] {
-        let words: io::Result<Vec<String>> = Err(io::Error::from(kind));
+    Ok(())
+}
+
+// What can't be had of the arguments: no memory for them, or no text. Then the status, and how many bytes are put.
+const UNHAD: [(ErrorKind, u8, u64); 2] = [
+    (ErrorKind::OutOfMemory, 5, 14),
+    (ErrorKind::InvalidData, 2, 142),
+];
+
+#[test]
+fn arguments_that_cannot_be_had(rt: HostRuntime) -> Result<(), Fail> {
+    let alloc = rt.alloc();
+    let mut none = CleanFiles {
+        files: Vec::new(alloc),
+    };
+    for (kind, status, taken) in UNHAD.iter() {
+        let mut sink = CleanSink { taken: 0 };
+        let words: io::Result<Vec<String>> = Err(io::Error::from(*kind));
         let code = run_with(alloc, words, &mut none, &mut sink);
-        assert_eq!(rt; code, ExitCode::from(status));
-        assert_eq!(rt; sink.taken, taken);
+        assert_eq!(rt; code, ExitCode::from(*status));
+        assert_eq!(rt; sink.taken, *taken);
     }
     Ok(())
 }
@@ -350,7 +351,7 @@ fn a_file_on_disk_is_analysed(rt: HostRuntime) -> Result<(), Fail> {
     let id = process::id(rt.process());
     let path = env::temp_dir(&rt)?.join(alloc, format!(in alloc; "straight-code-{id}")?.as_str())?;
     let name = path.to_str().ok_or("no text")?;
-    let bytes = small_file(alloc, &[0x00500513, 0x00100073])?;
+    let bytes = file_of_words(alloc, &FIVE)?;
     fs::write(&rt, name, bytes.as_slice())?;
     let words = words_of(
         alloc,

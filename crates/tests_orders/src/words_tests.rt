@@ -1,7 +1,7 @@
 //! What words are as an order.
 
-use crate::Order;
-use crate::commands::read_order;
+use number_text::push_dec;
+use orders::{Order, read_order};
 use std::alloc::{AllocError, Global};
 use std::test::Fail;
 
@@ -89,52 +89,87 @@ const REPORT_ORDERS: [(&str, &str); 22] = [
     ("upgrade|f|r|--track|a0", "usage"),
 ];
 
-fn told(alloc: Global, order: Order) -> Result<String, AllocError> {
+// Appends the words with spaces between them.
+fn push_words(text: &mut Vec<u8>, words: &[&str]) -> Result<(), AllocError> {
+    for (i, word) in words.iter().enumerate() {
+        if i > 0 {
+            text.extend_from_slice(b" ")?;
+        }
+        text.extend_from_slice(word.as_bytes())?;
+    }
+    Ok(())
+}
+
+// Appends a space and the number.
+fn push_number(text: &mut Vec<u8>, n: u32) -> Result<(), AllocError> {
+    text.extend_from_slice(b" ")?;
+    push_dec(text, u64::from(n))
+}
+
+fn push_order(text: &mut Vec<u8>, order: Order) -> Result<(), AllocError> {
     match order {
-        Order::Usage => String::from_str(alloc, "usage"),
-        Order::Analyse { file, list } => format!(in alloc; "analyse {file} {list}"),
-        Order::Certify { file, list } => format!(in alloc; "cert {file} {list}"),
-        Order::ListCode { file } => format!(in alloc; "list {file}"),
+        Order::Usage => push_words(text, &["usage"]),
+        Order::Analyse { file, list } => push_words(text, &["analyse", file, list]),
+        Order::Certify { file, list } => push_words(text, &["cert", file, list]),
+        Order::ListCode { file } => push_words(text, &["list", file]),
         Order::CheckRun {
             file,
             report,
             steps,
-            regs: Some(regs),
-        } => format!(in alloc; "run {file} {report} {steps} {regs}"),
-        Order::CheckRun {
-            file,
-            report,
-            steps,
-            regs: None,
-        } => format!(in alloc; "run {file} {report} {steps}"),
-        Order::Generate { n, list } => format!(in alloc; "gen {n} {list}"),
-        Order::Upgrade { file, report } => format!(in alloc; "upgrade {file} {report}"),
+            regs,
+        } => push_run(text, file, report, steps, regs),
+        Order::Generate { n, list } => {
+            push_words(text, &["gen"])?;
+            push_number(text, n)?;
+            push_words(text, &["", list])
+        }
+        Order::Upgrade { file, report } => push_words(text, &["upgrade", file, report]),
     }
 }
 
-// The order that words are, with `|` between them.
-fn order_of(alloc: Global, line: &str) -> Result<String, AllocError> {
+fn push_run(
+    text: &mut Vec<u8>,
+    file: &str,
+    report: &str,
+    steps: u32,
+    regs: Option<&str>,
+) -> Result<(), AllocError> {
+    push_words(text, &["run", file, report])?;
+    push_number(text, steps)?;
+    match regs {
+        Some(regs) => push_words(text, &["", regs]),
+        None => Ok(()),
+    }
+}
+
+// Whether the words of the line are this order.
+fn is_order(alloc: Global, line: &str, meant: &str) -> Result<bool, AllocError> {
     let mut words = Vec::new(alloc);
     for word in line.split('|') {
         words.push(String::from_str(alloc, word)?)?;
     }
-    told(alloc, read_order(alloc, &words)?)
+    let mut text = Vec::new(alloc);
+    push_order(&mut text, read_order(alloc, &words)?)?;
+    Ok(text.as_slice() == meant.as_bytes())
+}
+
+fn are_orders(alloc: Global, lines: &[(&str, &str)]) -> Result<bool, AllocError> {
+    for (line, meant) in lines.iter() {
+        if !is_order(alloc, line, meant)? {
+            return Ok(false);
+        }
+    }
+    Ok(true)
 }
 
 #[test]
 fn words_are_orders(rt: HostRuntime) -> Result<(), Fail> {
-    for (line, meant) in ORDERS {
-        let order = order_of(rt.alloc(), line)?;
-        assert_eq!(rt; order.as_str(), meant, "{line}");
-    }
+    assert!(rt; are_orders(rt.alloc(), &ORDERS)?);
     Ok(())
 }
 
 #[test]
 fn words_with_reports_are_orders(rt: HostRuntime) -> Result<(), Fail> {
-    for (line, meant) in REPORT_ORDERS {
-        let order = order_of(rt.alloc(), line)?;
-        assert_eq!(rt; order.as_str(), meant, "{line}");
-    }
+    assert!(rt; are_orders(rt.alloc(), &REPORT_ORDERS)?);
     Ok(())
 }
