@@ -137,7 +137,8 @@ pub(crate) fn words_of(alloc: Global, certs: &[CertLine]) -> Result<Items<Report
     Ok(words)
 }
 
-fn word_of(cert: Cert) -> CertWord
+/// The word that a report has for a certificate.
+pub fn word_of(cert: Cert) -> CertWord
     ensures { result ≡ word_of cert }
 {
     match cert {

@@ -27,6 +27,7 @@ mod upgrades;
 pub use accept::{image_of, points_of};
 pub use analysis::{Analysis, analyse, analyse_uncounted};
 pub use cert_line::CertLine;
+pub use certify::word_of;
 pub use laws::reports_tell_of_runs;
 pub use refusal::Refusal;
 pub use upgrades::{UpgradeRefusal, procedures_of, upgrade, upgrade_uncounted};

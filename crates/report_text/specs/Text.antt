@@ -30,6 +30,7 @@
 --   proc_text procedure      a procedure's line
 --   opening_text before procedure   that line, unless the point before is of the same procedure
 --   cert_word_text word      what is certified
+--   certified_text register word   a register's name, what is certified of it, and the line's end
 --   cert_text cert           the line of a certificate
 --   certs_text certs         the lines of certificates
 --   own_count procedure certs   how many certificates stand before the first of another procedure
@@ -114,8 +115,11 @@ cert_word_text Granted = codes "granted"
 cert_word_text Broken = codes "broken"
 cert_word_text Never = codes "never"
 
+abbrev pub certified_text : ℕ → CertWord → List ℕ
+certified_text register word = name_of_register register ++ codes " " ++ cert_word_text word ++ nl
+
 abbrev pub cert_text : ReportCert → List ℕ
-cert_text cert = codes "cert " ++ name_of_register cert.register ++ codes " " ++ cert_word_text cert.word ++ nl
+cert_text cert = codes "cert " ++ certified_text cert.register cert.word
 
 abbrev pub certs_text : List ReportCert → List ℕ
 certs_text certs = flat_map cert_text certs

@@ -1,9 +1,9 @@
 //! The writer of reports. Each function appends one part of the text.
 
-ghost use Rattle.std.specs.Prelude.{◌≡◌, ◌==◌, ◌≤◌, ◌++◌, length, All, true, not, position, IfOk, OnOk, codes};
+ghost use Rattle.std.specs.Prelude.{◌≡◌, ◌==◌, ◌≤◌, ◌++◌, length, All, true, not, position, IfOk, IsTrue, OnOk, codes};
 ghost use Rattle.number_text.specs.Numerals.{hex};
-ghost use Rattle.report_text.specs.Names.{IsName};
-ghost use Rattle.report_text.specs.Text.{nl, name_text, names_text, further_names_text, sign, magnitude, term_text, word_text, terms_text, constant_text, rel_text, rows_text, point_text, cert_word_text, cert_text, certs_text, own_count, points_text, text_of};
+ghost use Rattle.report_text.specs.Names.{IsName, is_certified};
+ghost use Rattle.report_text.specs.Text.{nl, name_text, names_text, further_names_text, sign, magnitude, term_text, word_text, terms_text, constant_text, rel_text, rows_text, point_text, cert_word_text, certified_text, cert_text, opening_text, certs_text, own_count, points_text, text_of};
 
 use crate::certs::{CertWord, ReportCert};
 use crate::names::Name;
@@ -31,7 +31,8 @@ pub fn write_report(alloc: Global, report: &Report) -> Result<Vec<u8>, AllocErro
     Ok(text)
 }
 
-fn push_names(text: &mut Vec<u8>, names: &[Name]) -> Result<(), AllocError>
+/// Appends the names, with commas between them.
+pub fn push_names(text: &mut Vec<u8>, names: &[Name]) -> Result<(), AllocError>
     requires { All IsName names.now }
     ensures { OnOk result (text.new.items ≡ text.old.items ++ names_text names.now) }
 {
@@ -82,9 +83,7 @@ fn push_points(
     let mut before = None;
     let mut certs = certs;
     for point in points {
-        if before != Some(point.proc_entry) {
-            push_line(text, b"proc ", point.proc_entry)?;
-        }
+        push_opening(text, before, point.proc_entry)?;
         let (own, later) = certs.split_at(own_count(point.proc_entry, certs));
         push_certs(text, own)?;
         certs = later;
@@ -92,6 +91,20 @@ fn push_points(
         before = Some(point.proc_entry);
     }
     Ok(())
+}
+
+/// Appends the line of a point's procedure, unless it is that of the point before.
+pub fn push_opening(
+    text: &mut Vec<u8>,
+    before: Option<u64>,
+    procedure: u64,
+) -> Result<(), AllocError>
+    ensures { OnOk result (text.new.items ≡ text.old.items ++ opening_text before procedure) }
+{
+    if before == Some(procedure) {
+        return Ok(());
+    }
+    push_line(text, b"proc ", procedure)
 }
 
 // How many certificates stand before the first of another procedure.
@@ -125,9 +138,17 @@ fn push_cert(text: &mut Vec<u8>, cert: &ReportCert) -> Result<(), AllocError>
     ensures { OnOk result (text.new.items ≡ text.old.items ++ cert_text cert.now) }
 {
     text.extend_from_slice(b"cert ")?;
-    text.extend_from_slice(register_name(cert.register).as_bytes())?;
+    push_certified(text, cert.register, cert.word)
+}
+
+/// Appends the name of a register, what is certified of it, and the line's end.
+pub fn push_certified(text: &mut Vec<u8>, register: u8, word: CertWord) -> Result<(), AllocError>
+    requires { IsTrue (is_certified register) }
+    ensures { OnOk result (text.new.items ≡ text.old.items ++ certified_text register word) }
+{
+    text.extend_from_slice(register_name(register).as_bytes())?;
     text.extend_from_slice(b" ")?;
-    text.extend_from_slice(cert_word(cert.word).as_bytes())?;
+    text.extend_from_slice(cert_word(word).as_bytes())?;
     text.extend_from_slice(b"\n")
 }
 

@@ -12,8 +12,9 @@
 --   AreRegistersOf items regs   the items are such a list; each register has the word that an item sets it to, and 0 where
 --                               none does
 --   IsRegistersOf text regs     the registers of the text's items, or None where these are no such list
+--   IsStart text regs           the same of a text that may be left out: without it all registers are 0
 use Rattle.std.specs.Prelude.{◌≡◌, ◌≢◌, ℕ, Bool, ◌<◌, ◌≤◌, ◌^◌, ◌==◌, List, ◌∷◌, ◌++◌, Option, Some, None}
-use Rattle.std.specs.Prelude.{length, map, All, AllPairs, Contains, slice_index}
+use Rattle.std.specs.Prelude.{length, map, replicate, All, AllPairs, Contains, slice_index}
 use denote.Ref.{Bor}
 use Rattle.std.specs.List.{slice_split}
 use Rattle.std.specs.Str.Parse.{IsNumeral, digits_value}
@@ -62,3 +63,7 @@ pub record AreRegistersOf (items : List (List ℕ)) (regs : List ℕ) : Type 0 w
 abbrev pub IsRegistersOf : List ℕ → Option (List ℕ) → Type 0
 IsRegistersOf text (Some regs) = AreRegistersOf (items_of text) regs
 IsRegistersOf text None = IsSettingList (items_of text) → ⊥
+
+abbrev pub IsStart : Option (List ℕ) → Option (List ℕ) → Type 0
+IsStart None regs = regs ≡ Some (replicate 32 0)
+IsStart (Some text) regs = IsRegistersOf text regs

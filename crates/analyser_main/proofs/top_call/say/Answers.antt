@@ -1,9 +1,0 @@
-use Rattle.std.proofs.Common.{refl}
-use Rattle.analyser_main.specs.Answers.{whole, cut}
-use Rattle.analyser_main.proofs.top_call.say.Goals as goal
-
-pub returns-in-Ok-clause-said : goal.returns-in-Ok-clause-said
-returns-in-Ok-clause-said g c = whole _ c.in-Ok.ensures.ok refl
-
-pub returns-in-Err-clause-said : goal.returns-in-Err-clause-said
-returns-in-Err-clause-said g c = cut _ c.in-Err.ensures.cause c.in-Err.ensures.err refl

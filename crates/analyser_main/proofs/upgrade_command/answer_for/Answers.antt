@@ -1,8 +1,0 @@
-use Rattle.std.proofs.Common.{refl}
-use Rattle.analyser_main.specs.ReportAnswers.{no_report}
-use Rattle.analyser_main.proofs.upgrade_command.answer_for.Goals as goal
-
-pub returns-in_ok-report_line-in-Err : goal.returns-in_ok-report_line-in-Err
-returns-in_ok-report_line-in-Err c =
-    no_report 6 _ c.in-Err.refusal c.in-Err.ensures.told c.in_ok-report_line-in-Err.ensures.refused refl
-    c.in_ok-report_line-in-Err.ensures.line

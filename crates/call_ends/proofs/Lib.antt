@@ -1,0 +1,4 @@
+mod AnswersOver
+mod RepliesGiven
+mod EndsReached
+pub mod Laws

@@ -1,0 +1,5 @@
+mod PointsListed
+mod Refused
+mod RowsTold
+mod OutOfRange
+mod OffsetsFound

@@ -1,0 +1,3 @@
+mod WordsRead
+mod CountsRead
+mod FewSteps

@@ -1,0 +1,39 @@
+//! The top call under watches of its caller's.
+
+use crate::calls::{sink, two_files, words_of};
+use crate::code_tests::{RECURSION, RECURSION_CODE};
+use elf_write::file_of_words;
+use outside_fakes::{MemFiles, MemSink};
+use run_watch::{CodeWatch, RelationWatch, ReturnWatch, StoreWatch};
+use std::alloc::{AllocError, Global};
+use std::test::Fail;
+use top_call::{affine_main, in_order};
+
+fn under_watches(
+    alloc: Global,
+    words: &[String],
+    files: &mut MemFiles,
+    out: &mut MemSink,
+) -> Result<u8, AllocError> {
+    let relations = Box::new(alloc, RelationWatch::new())?;
+    let stores = Box::new(alloc, StoreWatch::new())?;
+    let returns = Box::new(alloc, ReturnWatch::new())?;
+    let code = Box::new(alloc, CodeWatch::new())?;
+    let watches = in_order(alloc, relations, stores, returns, code)?;
+    Ok(affine_main(alloc, words, files, out, watches))
+}
+
+/// With a0 = 0 the procedure doesn't call itself, and returns to the `ebreak` at 0x1007c.
+#[test]
+fn a_run_under_watches(rt: HostRuntime) -> Result<(), Fail> {
+    let alloc = rt.alloc();
+    let words = words_of(alloc, "run f r --steps 100 --regs sp=0x20000")?;
+    let report = Vec::from_slice(alloc, RECURSION.as_bytes())?;
+    let mut files = two_files(alloc, file_of_words(alloc, &RECURSION_CODE)?, report)?;
+    let mut out = sink(alloc, 4096)?;
+    let status = under_watches(alloc, &words, &mut files, &mut out)?;
+    let verdict = b"affine-run 1\nsteps 7\nstop break 0x1007c\nend\n".as_slice();
+    assert_eq!(rt; status, 0);
+    assert_eq!(rt; out.written.as_slice(), verdict);
+    Ok(())
+}

@@ -1,0 +1,7 @@
+mod InputsRead
+mod OverBoth
+mod MemoryWanting
+mod LowStatuses
+mod NoFault
+mod ReportsDone
+mod OrdersDone

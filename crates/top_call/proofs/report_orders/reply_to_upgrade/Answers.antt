@@ -1,0 +1,16 @@
+use Rattle.order_answers.specs.ReportAnswers as answers
+use Rattle.order_answers.specs.ReportAnswers.{IsUnread, IsUpgrade}
+use Rattle.call_ends.proofs.Laws.{both_weaker, reply_weaker}
+use Rattle.top_call.proofs.OverBoth.{upgrade_over}
+use Rattle.call_ends.proofs.Laws.{reply_answers}
+use Rattle.top_call.proofs.report_orders.reply_to_upgrade.Goals as goal
+
+pub returns-in-Ok : goal.returns-in-Ok
+returns-in-Ok g c =
+    reply_answers _ _ c.answer_to_upgrade.result _ c.reply.ensures
+    (upgrade_over _ _ _ _ _ c.answer_to_upgrade.result c.in-Ok.ensures c.answer_to_upgrade.ensures)
+
+pub returns-in-Err : goal.returns-in-Err
+returns-in-Err g c =
+    reply_weaker _ _ _ _ c.in-Err.reply
+    (both_weaker _ _ IsUnread IsUpgrade (λ bytes told status text is. answers.IsUpgrade.unread status text is)) (λ rose. rose) c.in-Err.ensures

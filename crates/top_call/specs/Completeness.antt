@@ -1,0 +1,86 @@
+-- Completeness: an order whose input nothing refuses is done.
+--
+--   IsUnrefused IsCause bytes   the bytes are no more than a file may have, and want of memory is the one cause of a refusal
+--   IsTold contents Is          the contents are told, and Is holds of them
+--   IsReportFor bytes told report   what is told is the text of this report of words, which isn't too long, and whose slots'
+--                               procedures and points are the file's
+--   IsOld bytes report          the report is of version 1, and no program for its names has too many heads
+--   IsUnhindered order c        the order is none of usage, and the contents of its file are told, or its number is in range, and
+--                               nothing refuses them and its list; and where it names a report, its contents are told, and are
+--                               one of the file, and of an old one for an upgrade; the registers of a run are a list of registers
+--   Done Is status text         so it is, with status 0
+--   Checked Is status text      so it is, with status 0 or 7
+--   IsDone order c answer       the call ends with such a status and the order's whole text, or as a fault or want of memory has it
+use Rattle.std.specs.Prelude.{◌≡◌, ◌⊎◌, ℕ, ◌≤◌, List, Option, Some, None, length}
+use Rattle.elf_image.specs.declared.image.Image.{Image}
+use Rattle.flow_points.specs.PointLists.{FlowPoints}
+use Rattle.affine_prog.specs.declared.Program.{Program}
+use Rattle.affine_lift.specs.Lifting.{IsLifted}
+use Rattle.gen_elf.specs.Generated.{IsGenerated, IsInRange}
+use Rattle.report_text.specs.Text.{text_of}
+use Rattle.report_text.specs.declared.reports.Report.{Report}
+use Rattle.report_read.specs.Written.{IsOfWords}
+use Rattle.run_answers.specs.Laws.{IsOfFile}
+use Rattle.analyser_core.specs.Accepted.{IsRefusal, most_bytes}
+use Rattle.analyser_core.specs.Heads.{HasManyHeads}
+use Rattle.analyser_core.specs.declared.refusal.Refusal.{Refusal}
+use Rattle.analyser_core.specs.declared.refusal.Refusal.TheVariants.{Memory}
+use Rattle.start_registers.specs.Settings.{IsStart}
+use Rattle.orders.specs.Orders.{Order, Usage, Analyse, Certify, ListCode, CheckRun, Generate, Upgrade}
+use Rattle.refusal_lines.specs.Lines.{most_report_bytes}
+use Rattle.call_ends.specs.Calls.{Call, SaysIn, Ends, EndsOver, no_memory_text}
+use Rattle.order_answers.specs.FileRefusals.{IsCode, IsListRefusal}
+use Rattle.order_answers.specs.ReportAnswers.{IsRun, IsUpgrade}
+use Rattle.order_answers.specs.Answers.{IsAnswer, IsGenAnswer, IsListing, report_text}
+use Rattle.order_answers.specs.CertsText.{certs_text}
+use Rattle.top_call.specs.Answers.{EndsOverBoth}
+
+pub record IsUnrefused (IsCause : Refusal → Type 0) (bytes : List ℕ) : Type 0 where
+  pub short : length bytes ≤ most_bytes
+  pub only_memory : (refusal : Refusal) → IsCause refusal → refusal ≡ Memory
+
+abbrev pub IsTold : Option (List ℕ) → (List ℕ → Type 0) → Type 0
+IsTold (Some bytes) Is = Is bytes
+IsTold None Is = ⊥
+
+pub record IsReportFor (bytes told : List ℕ) (report : Report) : Type 0 where
+  pub short : length told ≤ most_report_bytes
+  pub words : IsOfWords report
+  pub text_is : told ≡ text_of report
+  pub of_file : (image : Image) (points : FlowPoints) → IsCode bytes image points → IsOfFile points report
+
+pub record IsOld (bytes : List ℕ) (report : Report) : Type 0 where
+  pub version_is : report.version ≡ 1
+  pub few_heads : (image : Image) (points : FlowPoints) (program : Program) → IsCode bytes image points →
+      IsLifted points report.tracked.names program → HasManyHeads program → ⊥
+
+abbrev pub IsUnhindered : Order → Call → Type 0
+IsUnhindered Usage c = ⊥
+IsUnhindered (Analyse file list) c = IsTold (c.contents file) (λ bytes. IsUnrefused (IsRefusal bytes list) bytes)
+IsUnhindered (Certify file list) c = IsTold (c.contents file) (λ bytes. IsUnrefused (IsRefusal bytes list) bytes)
+IsUnhindered (ListCode file) c = IsTold (c.contents file) (λ bytes. IsUnrefused (IsListRefusal bytes) bytes)
+IsUnhindered (CheckRun file report steps regs) c =
+    ((start : List ℕ) × IsStart regs (Some start))
+    × IsTold (c.contents file) (λ bytes. IsUnrefused (IsListRefusal bytes) bytes
+    × IsTold (c.contents report) (λ told. (old : Report) × IsReportFor bytes told old))
+IsUnhindered (Generate n list) c = IsInRange n × ((bytes : List ℕ) → IsGenerated n bytes → IsUnrefused (IsRefusal bytes list) bytes)
+IsUnhindered (Upgrade file report) c =
+    IsTold (c.contents file) (λ bytes. IsUnrefused (IsListRefusal bytes) bytes
+    × IsTold (c.contents report) (λ told. (old : Report) × IsReportFor bytes told old × IsOld bytes old))
+
+abbrev pub Done : (ℕ → List ℕ → Type 0) → ℕ → List ℕ → Type 0
+Done Is status text = Is status text × (status ≡ 0)
+
+abbrev pub Checked : (ℕ → List ℕ → Type 0) → ℕ → List ℕ → Type 0
+Checked Is status text = Is status text × ((status ≡ 0) ⊎ (status ≡ 7))
+
+abbrev pub IsDone : Order → Call → ℕ → Type 0
+IsDone Usage c answer = ⊥
+IsDone (Analyse file list) c answer = EndsOver file (λ bytes. Done (IsAnswer report_text list bytes)) c answer
+IsDone (Certify file list) c answer = EndsOver file (λ bytes. Done (IsAnswer certs_text list bytes)) c answer
+IsDone (ListCode file) c answer = EndsOver file (λ bytes. Done (IsListing bytes)) c answer
+IsDone (CheckRun file report steps regs) c answer =
+    ((start : List ℕ) × IsStart regs (Some start) × EndsOverBoth file report (λ bytes told. Checked (IsRun start steps bytes told)) c answer)
+    ⊎ SaysIn c 5 no_memory_text answer
+IsDone (Generate n list) c answer = Ends (Done (IsGenAnswer n list)) ⊥ c answer
+IsDone (Upgrade file report) c answer = EndsOverBoth file report (λ bytes told. Done (IsUpgrade bytes told)) c answer

@@ -1,0 +1,45 @@
+//! What the orders over a file get.
+
+ghost use Rattle.outside.specs.Counts.{HasRisen};
+ghost use Rattle.call_ends.specs.Calls.{IsAnswerOver};
+ghost use Rattle.call_ends.specs.Replies.{AnswersWith};
+ghost use Rattle.order_answers.specs.Answers.{report_text, IsAnswer, IsListing};
+ghost use Rattle.order_answers.specs.CertsText.{certs_text};
+
+use call_ends::{Reply, file_bytes, reply};
+use order_answers::{answer_to_analyse, answer_to_cert, answer_to_list};
+use outside::Files;
+use std::alloc::Global;
+
+/// What `analyse FILE --track LIST` gets.
+pub fn reply_to_analyse<F: Files>(alloc: Global, files: &mut F, file: &str, list: &str) -> Reply
+    ensures { AnswersWith (IsAnswerOver (F.contents files.old file.now) (IsAnswer report_text list.now))
+        (HasRisen (F.faults files.old file.now) (F.faults files.new file.now)) result }
+{
+    match file_bytes(alloc, files, file) {
+        Ok(bytes) => reply(answer_to_analyse(alloc, &bytes, list)),
+        Err(reply) => reply,
+    }
+}
+
+/// What `cert FILE --track LIST` gets.
+pub fn reply_to_cert<F: Files>(alloc: Global, files: &mut F, file: &str, list: &str) -> Reply
+    ensures { AnswersWith (IsAnswerOver (F.contents files.old file.now) (IsAnswer certs_text list.now))
+        (HasRisen (F.faults files.old file.now) (F.faults files.new file.now)) result }
+{
+    match file_bytes(alloc, files, file) {
+        Ok(bytes) => reply(answer_to_cert(alloc, &bytes, list)),
+        Err(reply) => reply,
+    }
+}
+
+/// What `list FILE` gets.
+pub fn reply_to_list<F: Files>(alloc: Global, files: &mut F, file: &str) -> Reply
+    ensures { AnswersWith (IsAnswerOver (F.contents files.old file.now) IsListing)
+        (HasRisen (F.faults files.old file.now) (F.faults files.new file.now)) result }
+{
+    match file_bytes(alloc, files, file) {
+        Ok(bytes) => reply(answer_to_list(alloc, &bytes)),
+        Err(reply) => reply,
+    }
+}
