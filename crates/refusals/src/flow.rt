@@ -1,5 +1,6 @@
 //! Why code is refused.
 
+use rv_decode::register_name;
 use thiserror::Error;
 
 /// Why the points of an image aren't given. Each but the first and the last names the address of a bad
@@ -17,10 +18,10 @@ pub enum FlowRefusal {
     #[error("NoInstruction {1:#x} at {0:#x}")]
     NoInstruction(u64, u32),
     /// A jump that links through this register, which is neither zero nor ra.
-    #[error("OddLink x{1} at {0:#x}")]
+    #[error("OddLink {register} at {0:#x}", register = name(.1))]
     OddLink(u64, u8),
     /// A jump to the address in this register, which is no return and no second half of a pair.
-    #[error("IndirectJump x{1} at {0:#x}")]
+    #[error("IndirectJump {register} at {0:#x}", register = name(.1))]
     IndirectJump(u64, u8),
     /// A jump, branch or call to this target, which is no multiple of the unit.
     #[error("MisalignedTarget {1:#x} at {0:#x}")]
@@ -32,4 +33,13 @@ pub enum FlowRefusal {
     /// Out of memory.
     #[error("out of memory")]
     Memory,
+}
+
+// The name of a register. A refusal of `recover` names none but those.
+fn name(register: &u8) -> &'static str {
+    if *register < 32 {
+        register_name(*register)
+    } else {
+        "none"
+    }
 }
