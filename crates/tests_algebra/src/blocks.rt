@@ -2,7 +2,7 @@
 
 ghost use Rattle.std.specs.Prelude.{◌≡◌, length};
 
-use crate::small_programs::{LOOP, Plan, Step, program};
+use crate::small_programs::{EdgePlan, LOOP, Plan, program};
 use affine_prog::well_formed;
 use block_program::{Blocks, contract};
 use lead_basis::Memory;
@@ -15,23 +15,23 @@ const TWO_CALLS: Plan = Plan {
     procs: &[(0, 17, 0), (5, 18, 0), (15, 19, 0)],
     nodes: 20,
     owners: &[0, 0, 0, 0, 0, 1, 1, 1, 1, 1, 1, 1, 1, 1, 1, 2, 2, 0, 1, 2],
-    steps: &[
-        Step::Goes(0, 1, &[]),
-        Step::Goes(1, 2, &[]),
-        Step::Goes(2, 3, &[]),
-        Step::Goes(5, 6, &[]),
-        Step::Goes(6, 7, &[]),
-        Step::Goes(7, 8, &[]),
-        Step::Goes(8, 9, &[]),
-        Step::Goes(10, 11, &[]),
-        Step::Goes(11, 12, &[]),
-        Step::Goes(12, 13, &[]),
-        Step::Goes(13, 14, &[]),
-        Step::Goes(14, 18, &[]),
-        Step::Goes(15, 16, &[]),
-        Step::Goes(16, 19, &[]),
-        Step::Calls(3, 4, &[], 1),
-        Step::Calls(9, 10, &[], 2),
+    edges: &[
+        EdgePlan::Do(0, 1, &[]),
+        EdgePlan::Do(1, 2, &[]),
+        EdgePlan::Do(2, 3, &[]),
+        EdgePlan::Do(5, 6, &[]),
+        EdgePlan::Do(6, 7, &[]),
+        EdgePlan::Do(7, 8, &[]),
+        EdgePlan::Do(8, 9, &[]),
+        EdgePlan::Do(10, 11, &[]),
+        EdgePlan::Do(11, 12, &[]),
+        EdgePlan::Do(12, 13, &[]),
+        EdgePlan::Do(13, 14, &[]),
+        EdgePlan::Do(14, 18, &[]),
+        EdgePlan::Do(15, 16, &[]),
+        EdgePlan::Do(16, 19, &[]),
+        EdgePlan::Call(3, 4, &[], 1),
+        EdgePlan::Call(9, 10, &[], 2),
     ],
     start: 0,
 };

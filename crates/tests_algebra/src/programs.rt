@@ -2,12 +2,11 @@
 //! that calls itself, where each change breaks one rule. And the maps of their level paths.
 
 use crate::small_programs::{
-    LOOP, MapWords, Plan, Put, RECURSION, Step, Words, edge, map, program, row,
+    EdgePlan, LOOP, MapWords, Plan, Put, RECURSION, Words, edge, map, program, row,
 };
 use affine_prog::*;
 use map_modules::{Mat, after_affine, apply, extend_call, identity, product};
 use std::alloc::{AllocError, Global};
-use std::test::Fail;
 
 /// Procedure 0 calls procedure 1, which puts any word in its slot at position 1 and then a0 into it.
 const CALL: Plan = Plan {
@@ -16,21 +15,21 @@ const CALL: Plan = Plan {
     procs: &[(0, 1, 0), (2, 3, 0b10)],
     nodes: 4,
     owners: &[0, 0, 1, 1],
-    steps: &[
-        Step::Calls(0, 1, &[Put::Any(0)], 1),
-        Step::Goes(2, 3, &[Put::Any(1), Put::Words(1, [1, 0, 0])]),
+    edges: &[
+        EdgePlan::Call(0, 1, &[Put::Any(0)], 1),
+        EdgePlan::Do(2, 3, &[Put::Any(1), Put::Words(1, [1, 0, 0])]),
     ],
     start: 0,
 };
 
 /// As the recursion, but what is taken back is added to a0.
 const ADDING: Plan = Plan {
-    steps: &[
-        Step::Calls(0, 1, &[], 1),
-        Step::Goes(2, 3, &[Put::Words(1, [1, 0, 0])]),
-        Step::Goes(3, 4, &[]),
-        Step::Calls(3, 4, &[Put::Words(0, [1, 0, 8])], 1),
-        Step::Goes(4, 5, &[Put::Words(0, [1, 1, 0])]),
+    edges: &[
+        EdgePlan::Call(0, 1, &[], 1),
+        EdgePlan::Do(2, 3, &[Put::Words(1, [1, 0, 0])]),
+        EdgePlan::Do(3, 4, &[]),
+        EdgePlan::Call(3, 4, &[Put::Words(0, [1, 0, 8])], 1),
+        EdgePlan::Do(4, 5, &[Put::Words(0, [1, 1, 0])]),
     ],
     ..RECURSION
 };
@@ -59,12 +58,12 @@ const BROKEN: [Plan; 7] = [
 
 /// Edges that the call may not have: into another procedure, to no node, one that writes a slot of another procedure, one
 /// that reads it, and one that calls no procedure.
-const BREAKING: [Step; 5] = [
-    Step::Goes(0, 3, &[]),
-    Step::Goes(0, 4, &[]),
-    Step::Goes(0, 1, &[Put::Any(1)]),
-    Step::Goes(0, 1, &[Put::Words(0, [0, 1, 0])]),
-    Step::Calls(0, 1, &[], 2),
+const BREAKING: [EdgePlan; 5] = [
+    EdgePlan::Do(0, 3, &[]),
+    EdgePlan::Do(0, 4, &[]),
+    EdgePlan::Do(0, 1, &[Put::Any(1)]),
+    EdgePlan::Do(0, 1, &[Put::Words(0, [0, 1, 0])]),
+    EdgePlan::Call(0, 1, &[], 2),
 ];
 
 fn owners_are_told(alloc: Global) -> Result<bool, AllocError> {
@@ -77,9 +76,13 @@ fn owners_are_told(alloc: Global) -> Result<bool, AllocError> {
     )
 }
 
+fn is_formed(alloc: Global, plan: &Plan) -> Result<bool, AllocError> {
+    Ok(well_formed(&program(alloc, plan)?))
+}
+
 fn broken_plans_are_seen(alloc: Global) -> Result<bool, AllocError> {
     for plan in BROKEN.iter() {
-        if well_formed(&program(alloc, plan)?) {
+        if is_formed(alloc, plan)? {
             return Ok(false);
         }
     }
@@ -87,9 +90,9 @@ fn broken_plans_are_seen(alloc: Global) -> Result<bool, AllocError> {
 }
 
 fn breaking_edges_are_seen(alloc: Global) -> Result<bool, AllocError> {
-    for step in BREAKING.iter() {
+    for plan in BREAKING.iter() {
         let mut program = program(alloc, &CALL)?;
-        program.edges.push(edge(alloc, step)?)?;
+        program.edges.push(edge(alloc, plan)?)?;
         if well_formed(&program) {
             return Ok(false);
         }
@@ -98,17 +101,15 @@ fn breaking_edges_are_seen(alloc: Global) -> Result<bool, AllocError> {
 }
 
 #[test]
-fn small_programs_are_well_formed(rt: HostRuntime) -> Result<(), Fail> {
-    assert!(rt; well_formed(&program(rt.alloc(), &LOOP)?));
-    assert!(rt; owners_are_told(rt.alloc())?);
-    Ok(())
+fn small_programs_are_well_formed(rt: HostRuntime) {
+    assert!(rt; is_formed(rt.alloc(), &LOOP) == Ok(true));
+    assert!(rt; owners_are_told(rt.alloc()) == Ok(true));
 }
 
 #[test]
-fn each_broken_rule_is_seen(rt: HostRuntime) -> Result<(), Fail> {
-    assert!(rt; broken_plans_are_seen(rt.alloc())?);
-    assert!(rt; breaking_edges_are_seen(rt.alloc())?);
-    Ok(())
+fn each_broken_rule_is_seen(rt: HostRuntime) {
+    assert!(rt; broken_plans_are_seen(rt.alloc()) == Ok(true));
+    assert!(rt; breaking_edges_are_seen(rt.alloc()) == Ok(true));
 }
 
 /// The matrix of a list of affine assignments; none where it isn't one.
@@ -169,9 +170,8 @@ fn rounds_have_their_maps(alloc: Global) -> Result<bool, AllocError> {
 }
 
 #[test]
-fn rounds_of_a_loop_have_these_maps(rt: HostRuntime) -> Result<(), Fail> {
-    assert!(rt; rounds_have_their_maps(rt.alloc())?);
-    Ok(())
+fn rounds_of_a_loop_have_these_maps(rt: HostRuntime) {
+    assert!(rt; rounds_have_their_maps(rt.alloc()) == Ok(true));
 }
 
 /// For a depth of calls the edge between, a0 before the last assignment, a0 at the exit, and that from 5.
@@ -221,11 +221,10 @@ fn depths_have_their_maps(
 }
 
 #[test]
-fn recursion_has_these_maps_at_each_depth(rt: HostRuntime) -> Result<(), Fail> {
+fn recursion_has_these_maps_at_each_depth(rt: HostRuntime) {
     assert!(rt; after_affine(&identity(1), 1, &row([0, 0, 7])) == map(OPENED));
-    assert!(rt; depths_have_their_maps(rt.alloc(), &RECURSION, &DEPTHS)?);
-    assert!(rt; depths_have_their_maps(rt.alloc(), &ADDING, &ADDING_DEPTHS)?);
-    Ok(())
+    assert!(rt; depths_have_their_maps(rt.alloc(), &RECURSION, &DEPTHS) == Ok(true));
+    assert!(rt; depths_have_their_maps(rt.alloc(), &ADDING, &ADDING_DEPTHS) == Ok(true));
 }
 
 #[test]

@@ -21,9 +21,9 @@ pub enum Put {
 
 /// An edge: the nodes that it leaves and enters, and its assignments; then the procedure that it calls, by its number.
 #[derive(Clone, Copy)]
-pub enum Step {
-    Goes(u32, u32, &'static [Put]),
-    Calls(u32, u32, &'static [Put], u32),
+pub enum EdgePlan {
+    Do(u32, u32, &'static [Put]),
+    Call(u32, u32, &'static [Put], u32),
 }
 
 /// A program. Its procedures are entry, exit and slots.
@@ -34,7 +34,7 @@ pub struct Plan {
     pub procs: &'static [(u32, u32, u16)],
     pub nodes: u32,
     pub owners: &'static [u32],
-    pub steps: &'static [Step],
+    pub edges: &'static [EdgePlan],
     pub start: u32,
 }
 
@@ -45,11 +45,11 @@ pub const LOOP: Plan = Plan {
     procs: &[(0, 4, 0)],
     nodes: 5,
     owners: &[0; 5],
-    steps: &[
-        Step::Goes(0, 1, &[Put::Words(0, [0, 0, 0])]),
-        Step::Goes(1, 2, &[Put::Words(0, [1, 0, 8])]),
-        Step::Goes(2, 3, &[]),
-        Step::Goes(2, 1, &[]),
+    edges: &[
+        EdgePlan::Do(0, 1, &[Put::Words(0, [0, 0, 0])]),
+        EdgePlan::Do(1, 2, &[Put::Words(0, [1, 0, 8])]),
+        EdgePlan::Do(2, 3, &[]),
+        EdgePlan::Do(2, 1, &[]),
     ],
     start: 0,
 };
@@ -61,12 +61,12 @@ pub const RECURSION: Plan = Plan {
     procs: &[(0, 1, 0), (2, 5, 0b10)],
     nodes: 6,
     owners: &[0, 0, 1, 1, 1, 1],
-    steps: &[
-        Step::Calls(0, 1, &[], 1),
-        Step::Goes(2, 3, &[Put::Words(1, [1, 0, 0])]),
-        Step::Goes(3, 4, &[]),
-        Step::Calls(3, 4, &[Put::Words(0, [1, 0, 8])], 1),
-        Step::Goes(4, 5, &[Put::Words(0, [0, 1, 0])]),
+    edges: &[
+        EdgePlan::Call(0, 1, &[], 1),
+        EdgePlan::Do(2, 3, &[Put::Words(1, [1, 0, 0])]),
+        EdgePlan::Do(3, 4, &[]),
+        EdgePlan::Call(3, 4, &[Put::Words(0, [1, 0, 8])], 1),
+        EdgePlan::Do(4, 5, &[Put::Words(0, [0, 1, 0])]),
     ],
     start: 0,
 };
@@ -105,14 +105,14 @@ fn assigns_of(alloc: Global, puts: &[Put]) -> Result<Items<Assign>, AllocError> 
     Ok(assigns)
 }
 
-pub fn edge(alloc: Global, step: &Step) -> Result<Edge, AllocError> {
-    match *step {
-        Step::Goes(from, to, puts) => Ok(Edge {
+pub fn edge(alloc: Global, plan: &EdgePlan) -> Result<Edge, AllocError> {
+    match *plan {
+        EdgePlan::Do(from, to, puts) => Ok(Edge {
             from,
             to,
             kind: Kind::Do(assigns_of(alloc, puts)?),
         }),
-        Step::Calls(from, to, puts, callee) => Ok(Edge {
+        EdgePlan::Call(from, to, puts, callee) => Ok(Edge {
             from,
             to,
             kind: Kind::Call {
@@ -123,10 +123,10 @@ pub fn edge(alloc: Global, step: &Step) -> Result<Edge, AllocError> {
     }
 }
 
-fn edges_of(alloc: Global, steps: &[Step]) -> Result<Items<Edge>, AllocError> {
+fn edges_of(alloc: Global, plans: &[EdgePlan]) -> Result<Items<Edge>, AllocError> {
     let mut edges = Items::new(alloc);
-    for step in steps {
-        edges.push(edge(alloc, step)?)?;
+    for plan in plans {
+        edges.push(edge(alloc, plan)?)?;
     }
     Ok(edges)
 }
@@ -150,7 +150,7 @@ pub fn program(alloc: Global, plan: &Plan) -> Result<Program, AllocError> {
         procs: procs_of(alloc, plan.procs)?,
         nodes: plan.nodes,
         owners: Items::from_slice(alloc, plan.owners)?,
-        edges: edges_of(alloc, plan.steps)?,
+        edges: edges_of(alloc, plan.edges)?,
         start: plan.start,
     })
 }

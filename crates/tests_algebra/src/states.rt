@@ -2,7 +2,7 @@
 
 ghost use Rattle.std.specs.Prelude.{◌≡◌, ◌<◌, length};
 
-use crate::small_programs::{Plan, Put, Step, Words, program, row};
+use crate::small_programs::{EdgePlan, Plan, Put, Words, program, row};
 use affine_prog::well_formed;
 use call_summaries::exits;
 use lead_basis::{Memory, Steps};
@@ -19,9 +19,9 @@ const LOOP: Plan = Plan {
     procs: &[(0, 2, 0)],
     nodes: 3,
     owners: &[0; 3],
-    steps: &[
-        Step::Goes(0, 1, &[Put::Words(0, [0, 0, 0])]),
-        Step::Goes(1, 1, &[Put::Words(0, [1, 0, 8])]),
+    edges: &[
+        EdgePlan::Do(0, 1, &[Put::Words(0, [0, 0, 0])]),
+        EdgePlan::Do(1, 1, &[Put::Words(0, [1, 0, 8])]),
     ],
     start: 0,
 };
@@ -33,10 +33,10 @@ const RECURSION: Plan = Plan {
     procs: &[(0, 2, 0), (3, 6, 0b10)],
     nodes: 7,
     owners: &[0, 0, 0, 1, 1, 1, 1],
-    steps: &[
-        Step::Calls(0, 1, &[Put::Words(0, [0, 0, 0])], 1),
-        Step::Goes(3, 4, &[Put::Words(1, [1, 0, 0])]),
-        Step::Calls(4, 5, &[Put::Words(0, [1, 0, 8])], 1),
+    edges: &[
+        EdgePlan::Call(0, 1, &[Put::Words(0, [0, 0, 0])], 1),
+        EdgePlan::Do(3, 4, &[Put::Words(1, [1, 0, 0])]),
+        EdgePlan::Call(4, 5, &[Put::Words(0, [1, 0, 8])], 1),
     ],
     start: 0,
 };

@@ -2,7 +2,7 @@
 
 ghost use Rattle.std.specs.Prelude.{◌≡◌, ◌<◌};
 
-use crate::small_programs::{LOOP, MapWords, Plan, Put, RECURSION, Step, Words, map, program};
+use crate::small_programs::{EdgePlan, LOOP, MapWords, Plan, Put, RECURSION, Words, map, program};
 use affine_prog::well_formed;
 use call_summaries::{exits, summaries};
 use lead_basis::{Memory, Steps};
@@ -14,20 +14,20 @@ use std::sync::ledger::{Blank, Ledger};
 /// Procedure 0 adds 8 or calls procedure 1, which adds 1 and calls procedure 0, and doesn't use its slot.
 /// Each returns only after the other.
 const MUTUAL: Plan = Plan {
-    steps: &[
-        Step::Calls(0, 1, &[], 1),
-        Step::Goes(0, 1, &[Put::Words(0, [1, 0, 8])]),
-        Step::Calls(2, 5, &[Put::Words(0, [1, 0, 1])], 0),
+    edges: &[
+        EdgePlan::Call(0, 1, &[], 1),
+        EdgePlan::Do(0, 1, &[Put::Words(0, [1, 0, 8])]),
+        EdgePlan::Call(2, 5, &[Put::Words(0, [1, 0, 1])], 0),
     ],
     ..RECURSION
 };
 
 /// Procedure 0 calls procedure 1, which never returns.
 const ENDLESS: Plan = Plan {
-    steps: &[
-        Step::Calls(0, 1, &[], 1),
-        Step::Goes(2, 3, &[Put::Any(0)]),
-        Step::Goes(3, 2, &[]),
+    edges: &[
+        EdgePlan::Call(0, 1, &[], 1),
+        EdgePlan::Do(2, 3, &[Put::Any(0)]),
+        EdgePlan::Do(3, 2, &[]),
     ],
     ..RECURSION
 };

@@ -3,7 +3,6 @@
 use report_read::{ReportRefusal, read_report};
 use report_text::write_report;
 use std::alloc::{AllocError, Global};
-use std::test::Fail;
 
 /// Relations of sp, ra and a slot in two procedures.
 const FIRST_VERSION: &str =
@@ -167,19 +166,21 @@ fn comes_back(alloc: Global, text: &str) -> Result<bool, AllocError> {
     }
 }
 
-#[test]
-fn reports_of_both_versions(rt: HostRuntime) -> Result<(), Fail> {
-    let alloc = rt.alloc();
-    assert!(rt; comes_back(alloc, FIRST_VERSION)? && is_cut_everywhere(alloc, FIRST_VERSION));
-    assert!(rt; comes_back(alloc, SECOND_VERSION)? && is_cut_everywhere(alloc, SECOND_VERSION));
-    Ok(())
+fn is_read(alloc: Global, text: &str) -> Result<bool, AllocError> {
+    Ok(is_cut_everywhere(alloc, text) && comes_back(alloc, text)?)
 }
 
 #[test]
-fn changed_reports(rt: HostRuntime) -> Result<(), Fail> {
+fn reports_of_both_versions(rt: HostRuntime) {
     let alloc = rt.alloc();
-    assert!(rt; are_refused(alloc, FIVE_LINES, &CHANGED_POINTS)?);
-    assert!(rt; are_refused(alloc, THREE_LINES, &CHANGED_CERTIFICATES)?);
-    assert!(rt; are_refused(alloc, "", &OTHER_TEXTS)?);
-    Ok(())
+    assert!(rt; is_read(alloc, FIRST_VERSION) == Ok(true));
+    assert!(rt; is_read(alloc, SECOND_VERSION) == Ok(true));
+}
+
+#[test]
+fn changed_reports(rt: HostRuntime) {
+    let alloc = rt.alloc();
+    assert!(rt; are_refused(alloc, FIVE_LINES, &CHANGED_POINTS) == Ok(true));
+    assert!(rt; are_refused(alloc, THREE_LINES, &CHANGED_CERTIFICATES) == Ok(true));
+    assert!(rt; are_refused(alloc, "", &OTHER_TEXTS) == Ok(true));
 }

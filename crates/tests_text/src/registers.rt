@@ -2,7 +2,6 @@
 
 use start_registers::read_registers;
 use std::alloc::{AllocError, Global};
-use std::test::Fail;
 
 /// Lists, with the numbers and the words of the registers that aren't 0.
 const LISTS: [(&str, &[(usize, u64)]); 8] = [
@@ -42,8 +41,8 @@ const OTHER_TEXTS: [&str; 19] = [
 fn with(set: &[(usize, u64)]) -> [u64; 32] {
     let mut regs = [0; 32];
     for (register, word) in set {
-        if let Some(place) = regs.get_mut(*register) {
-            *place = *word;
+        if *register < 32 {
+            regs[*register] = *word;
         }
     }
     regs
@@ -68,8 +67,7 @@ fn others_are_none(alloc: Global) -> Result<bool, AllocError> {
 }
 
 #[test]
-fn lists(rt: HostRuntime) -> Result<(), Fail> {
-    assert!(rt; lists_are_read(rt.alloc())?);
-    assert!(rt; others_are_none(rt.alloc())?);
-    Ok(())
+fn lists(rt: HostRuntime) {
+    assert!(rt; lists_are_read(rt.alloc()) == Ok(true));
+    assert!(rt; others_are_none(rt.alloc()) == Ok(true));
 }
