@@ -1,11 +1,7 @@
 mod Membership
 mod Positions
 mod Spanning
-mod Assigning
 mod Alone
-mod Appending
-mod Imaging
-mod InOrder
 mod Slots
 mod Openings
 mod Returning
