@@ -20,4 +20,3 @@ mod Turning
 mod Placing
 mod Starting
 mod Bounding
-pub mod Laws
