@@ -11,14 +11,14 @@ use crate::words::{extended, low, signed_low, word};
 use rv_decode::{BranchOp, ImmOp, RegOp, ShiftOp};
 
 /// The immediate of LUI and AUIPC.
-pub(crate) fn upper(imm: u32) -> u64
+pub fn upper(imm: u32) -> u64
     ensures { result ≡ upper imm }
 {
     extended(imm << 12)
 }
 
 /// The sum with a signed number.
-pub(crate) fn plus(a: u64, offset: i32) -> u64
+pub fn plus(a: u64, offset: i32) -> u64
     ensures { result ≡ word (pos a +ℤ offset) }
 {
     a.wrapping_add(word(offset))
@@ -39,7 +39,7 @@ pub(crate) fn is_taken(op: BranchOp, a: u64, b: u64) -> bool
 }
 
 /// What an operation with an immediate gives.
-pub(crate) fn imm_result(op: ImmOp, a: u64, imm: i32) -> u64
+pub fn imm_result(op: ImmOp, a: u64, imm: i32) -> u64
     ensures { result ≡ imm_result op a imm }
 {
     match op {
@@ -55,7 +55,7 @@ pub(crate) fn imm_result(op: ImmOp, a: u64, imm: i32) -> u64
 
 /// What a shift by a constant gives.
 #[tactic(auto, using(crate::proofs::LowWords::low_shift))]
-pub(crate) fn shift_result(op: ShiftOp, a: u64, by: u8) -> u64
+pub fn shift_result(op: ShiftOp, a: u64, by: u8) -> u64
     requires { by < 2 ^ (shift_row op).width }
     ensures { result ≡ shift_result op a by }
 {
@@ -71,7 +71,7 @@ pub(crate) fn shift_result(op: ShiftOp, a: u64, by: u8) -> u64
 
 /// What an operation of two registers gives.
 #[tactic(auto, using(crate::proofs::LowWords::low_shift, crate::proofs::LowWords::low_product))]
-pub(crate) fn reg_result(op: RegOp, a: u64, b: u64) -> u64
+pub fn reg_result(op: RegOp, a: u64, b: u64) -> u64
     ensures { result ≡ reg_result op a b }
 {
     match op {

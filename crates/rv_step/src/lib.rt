@@ -25,6 +25,7 @@ mod records;
 mod step;
 mod words;
 
+pub use alu::{imm_result, plus, reg_result, shift_result, upper};
 pub use machine::Machine;
 pub use records::{StepRec, Stop, StoreRec};
 

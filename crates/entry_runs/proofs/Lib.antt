@@ -1,0 +1,17 @@
+pub mod Bytes
+pub mod Words
+pub mod Describing
+pub mod Leaving
+pub mod Storing
+pub mod Computing
+pub mod Executing
+pub mod Sparing
+pub mod Standing
+pub mod Fetching
+pub mod Passing
+pub mod Following
+pub mod Ending
+pub mod Running
+pub mod Guarding
+pub mod Walking
+pub mod Cases

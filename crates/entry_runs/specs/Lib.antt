@@ -1,0 +1,4 @@
+pub mod Frames
+pub mod Premises
+pub mod Theorems
+pub mod Walks

@@ -1,0 +1,5 @@
+pub mod Finding
+pub mod Ordering
+pub mod Settling
+pub mod Keeping
+pub mod Tabling
