@@ -42,7 +42,7 @@ unknowns_same i v w k j row column =
 
     nothing : (c : ℕ) → word (sum_below 17 (λ l. slice_index (constant c) l * entry (identity 16) l j)) ≡ word 0
     nothing c =
-        constant_sum c j (identity 16) ∙ ap (λ x. word (c * x)) (last_zero (identity 16) (IsAffine-identity 16) j column) ∙ ap word (let e : c * 0 ≡ 0 = omega arith in e)
+        constant_sum c (λ l. entry (identity 16) l j) ∙ ap (λ x. word (c * x)) (last_zero (identity 16) (IsAffine-identity 16) j column) ∙ ap word (let e : c * 0 ≡ 0 = omega arith in e)
 
 pub choices_move_constants : (assigns : List Assign) (words others : List ℕ) → All (λ a. position_of a < 16) assigns → (i j : ℕ) → i < 17 → j < 16
     → entry (matrix_of assigns words) i j ≡ entry (matrix_of assigns others) i j

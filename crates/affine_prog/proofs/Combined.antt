@@ -32,22 +32,22 @@ choice_is_combined start (row ∷ rows) v (c, u, k, e) =
       e ∙ ap (λ x. words_of (plus c x row)) is ∙ sym (words_of-plus_factor c (combined start words rows) row),
     )
 
-module _ (s : List ℕ) (is_row : IsRow 289 s) where
-  none_added : (xs row : List ℕ) → IsRow 289 xs → IsRow 289 row → words_of (plus 0 xs row) ≡ xs
+module _ (n : ℕ) (s : List ℕ) (is_row : IsRow n s) where
+  none_added : (xs row : List ℕ) → IsRow n xs → IsRow n row → words_of (plus 0 xs row) ≡ xs
   none_added xs row x r = ap words_of (plus-zero xs row (x.width ∙ sym r.width)) ∙ x.words
 
-  combined-zeros : (rows : List (List ℕ)) → All (IsRow 289) rows → combined s (replicate (length rows) 0) rows ≡ s
+  combined-zeros : (rows : List (List ℕ)) → All (IsRow n) rows → combined s (replicate (length rows) 0) rows ≡ s
   combined-zeros [] all = refl
   combined-zeros (row ∷ rows) all =
-      ap (λ xs. words_of (plus 0 xs row)) (combined-zeros rows (All-tail (IsRow 289) row rows all)) ∙ none_added s row is_row (All-head (IsRow 289) row rows all)
+      ap (λ xs. words_of (plus 0 xs row)) (combined-zeros rows (All-tail (IsRow n) row rows all)) ∙ none_added s row is_row (All-head (IsRow n) row rows all)
 
-pub combined-unit : (s : List ℕ) (rows : List (List ℕ)) (k : ℕ) → IsRow 289 s → All (IsRow 289) rows → k < length rows
-    → combined s (set (replicate (length rows) 0) k 1) rows ≡ words_of (plus 1 s (get_or rows k []))
-combined-unit s [] k is_row all within = absurd (omega arith)
-combined-unit s (row ∷ rows) zero is_row all within =
-    ap (λ xs. words_of (plus 1 xs row)) (combined-zeros s is_row rows (All-tail (IsRow 289) row rows all))
-combined-unit s (row ∷ rows) (suc k) is_row all within =
-    let rest = All-tail (IsRow 289) row rows all in
-    ap (λ xs. words_of (plus 0 xs row)) (combined-unit s rows k is_row rest (omega arith))
-    ∙ none_added s is_row (words_of (plus 1 s (get_or rows k []))) row
-    (IsRow-plus 289 1 s (get_or rows k []) is_row (rest k [] (omega arith))) (All-head (IsRow 289) row rows all)
+  pub combined-unit : (rows : List (List ℕ)) (k : ℕ) → All (IsRow n) rows → k < length rows
+      → combined s (set (replicate (length rows) 0) k 1) rows ≡ words_of (plus 1 s (get_or rows k []))
+  combined-unit [] k all within = absurd (omega arith)
+  combined-unit (row ∷ rows) zero all within =
+      ap (λ xs. words_of (plus 1 xs row)) (combined-zeros rows (All-tail (IsRow n) row rows all))
+  combined-unit (row ∷ rows) (suc k) all within =
+      let rest = All-tail (IsRow n) row rows all in
+      ap (λ xs. words_of (plus 0 xs row)) (combined-unit rows k rest (omega arith))
+      ∙ none_added (words_of (plus 1 s (get_or rows k []))) row
+      (IsRow-plus n 1 s (get_or rows k []) is_row (rest k [] (omega arith))) (All-head (IsRow n) row rows all)

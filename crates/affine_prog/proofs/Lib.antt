@@ -12,4 +12,5 @@ pub mod Used
 pub mod Spanned
 pub mod Openings
 pub mod Columns
+pub mod Appending
 pub mod Lemmas

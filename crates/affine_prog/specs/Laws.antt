@@ -42,7 +42,7 @@ use Rattle.map_modules.specs.Matrices.{entry, matrix, product, apply, linear_ext
 use Rattle.affine_prog.specs.declared.Program.{Program}
 use Rattle.affine_prog.specs.declared.Assign.{Assign}
 use Rattle.affine_prog.specs.Programs.{entry_of, owner_of, visible_in, IsWellFormed}
-use Rattle.affine_prog.specs.Assignments.{position_of, unknown_count, Choice, matrix_of}
+use Rattle.affine_prog.specs.Assignments.{position_of, unknown_count, IsMadeOf, matrix_of}
 use Rattle.affine_prog.specs.LevelPaths.{opening_map, step_map, call_map, LevelPath}
 use Rattle.affine_prog.specs.OpenPaths.{Start, OpenPath}
 use Rattle.affine_prog.specs.Relations.{IsReached, Holds}
@@ -52,7 +52,7 @@ abbrev pub zero_choice : ℕ → List ℕ
 zero_choice n = replicate n 0
 
 abbrev pub IsStepOf : List Assign → List ℕ → List ℕ → Type 0
-IsStepOf assigns m n = (words : List ℕ) × Choice assigns words × (n ≡ step_map assigns words m)
+IsStepOf assigns m n = IsMadeOf 17 assigns m n
 
 pub record IsAffineInChoices (assigns : List Assign) (m : List ℕ) : Type 0 where
   pub differences : List (List ℕ)

@@ -22,14 +22,14 @@ use Rattle.affine_prog.specs.declared.Program.{Program}
 use Rattle.affine_prog.specs.declared.Kind.TheVariants.{Do, Call}
 use Rattle.affine_prog.specs.declared.Assign.{Assign}
 use Rattle.affine_prog.specs.Programs.{edge, entry_of, exit_of, slots_of}
-use Rattle.affine_prog.specs.Assignments.{Choice, matrix_of}
+use Rattle.affine_prog.specs.Assignments.{Choice, made, matrix_of}
 
 abbrev pub opening_map : ℕ → ℕ → List ℕ → List ℕ
 opening_map registers slots words =
     matrix (λ i j. if has registers i || (i == 16) then (if j == i then 1 else 0) else if has slots i && (j == 16) then slice_index words i else 0)
 
 abbrev pub step_map : List Assign → List ℕ → List ℕ → List ℕ
-step_map assigns words m = product (matrix_of assigns words) m
+step_map assigns words m = made 17 assigns words m
 
 abbrev pub call_map : ℕ → ℕ → List ℕ → List ℕ → List ℕ → List ℕ
 call_map registers slots before callee caller = product (extension registers slots callee) (product before caller)

@@ -13,7 +13,7 @@ use Rattle.affine_prog.specs.Assignments.{Choice, matrix_of}
 use Rattle.affine_prog.specs.LevelPaths.{step_map, call_map, LevelPath, opening, step, call}
 use Rattle.affine_prog.specs.OpenPaths.{OpenPath, first, enter}
 use Rattle.block_program.specs.Laws.{IsLevelAlong, IsOpenAlong}
-use Rattle.reach_modules.proofs.Laws.{matrix_of-append, Choice-append}
+use Rattle.affine_prog.proofs.Lemmas.{matrix_of-append, Choice-append}
 
 -- the maps of level paths are matrices, and the states of open paths are rows, whatever the program
 pub level_row : (program : Program) (p u : ℕ) (m : List ℕ) → LevelPath program p u m → IsRow 289 m

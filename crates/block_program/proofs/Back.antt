@@ -9,7 +9,7 @@ use Rattle.affine_prog.specs.LevelPaths.{opening_map, step_map, call_map, LevelP
 use Rattle.affine_prog.specs.OpenPaths.{OpenPath, first, enter}
 use Rattle.block_program.specs.Chains.{Chain}
 use Rattle.block_program.specs.BlockPrograms.{IsBlockProgram}
-use Rattle.reach_modules.proofs.Laws.{Choice-parts}
+use Rattle.affine_prog.proofs.Lemmas.{Choice-parts}
 use Rattle.block_program.proofs.Sources.{edge_of_do, edge_of_call}
 use Rattle.block_program.proofs.Procs.{slots_same, entry_same, exit_same, as_many}
 use Rattle.block_program.specs.Laws.{IsLevelAlong, IsOpenAlong}

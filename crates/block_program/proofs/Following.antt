@@ -10,7 +10,7 @@ use Rattle.affine_prog.specs.Assignments.{Choice, matrix_of}
 use Rattle.affine_prog.specs.LevelPaths.{step_map, LevelPath, step}
 use Rattle.affine_prog.specs.OpenPaths.{OpenPath, first, enter}
 use Rattle.block_program.specs.Chains.{Chain, here, after}
-use Rattle.reach_modules.proofs.Laws.{Choice-parts}
+use Rattle.affine_prog.proofs.Lemmas.{Choice-parts}
 use Rattle.block_program.proofs.Along.{level_row, step_map-append}
 
 -- a path goes on along a chain

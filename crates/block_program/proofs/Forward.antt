@@ -14,7 +14,7 @@ use Rattle.block_program.specs.Laws.{IsLevelAlong, IsOpenAlong}
 use Rattle.block_program.proofs.Edges.{IsCall, chain_at, at_head}
 use Rattle.block_program.proofs.Procs.{entry_same, exit_same, as_many}
 use Rattle.block_program.proofs.Along.{along_nothing, nothing_along, along_more, step_along, call_along, open_from, open_map-append}
-use Rattle.reach_modules.proofs.Laws.{Choice-append}
+use Rattle.affine_prog.proofs.Lemmas.{Choice-append}
 use Rattle.block_program.proofs.HeadNumbers.{head_at, same_number, entry_head, slots_of_small, block_to, callee_within, head_of_call}
 
 module _ (program : Program) (heads : List ℕ) (small : Program) (w : IsWellFormed program) (blocks : IsBlockProgram program heads small) where

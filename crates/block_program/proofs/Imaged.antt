@@ -9,9 +9,8 @@ use Rattle.row_modules.proofs.Laws.{generator, nothing_contained, products_span,
 use Rattle.map_modules.specs.Matrices.{apply}
 use Rattle.map_modules.proofs.Lemmas.{IsRow-vector, apply_is_bilinear}
 use Rattle.affine_prog.specs.declared.Assign.{Assign}
-use Rattle.reach_modules.specs.Made.{Makes, Spans}
-use Rattle.reach_modules.specs.Moves.{IsMatrixOf}
-use Rattle.reach_modules.proofs.Laws.{matrix_is_row}
+use Rattle.row_images.specs.States.{Makes, Spans, IsMatrixOf}
+use Rattle.affine_prog.proofs.Lemmas.{matrix_is_row}
 use Rattle.block_program.specs.Pushes.{MakesOf}
 
 pub products_are_rows : (M P : List ℕ → Type 0) → AreRows 17 (Products apply M P)

@@ -1,5 +1,5 @@
 -- The module at an inner node is what its one edge makes of the module before it, and few rows are placed in a basis of it.
-use Rattle.std.proofs.Common.{◌≡◌, ℕ, zero, suc, ◌+◌, ◌*◌, ◌≤◌, ◌<◌, List, [], ◌∷◌, ◌++◌, flat_map, Contains, All, length, take, get_or, refl, subst, arith}
+use Rattle.std.proofs.Common.{◌≡◌, ℕ, zero, suc, ◌+◌, ◌*◌, ◌≤◌, ◌<◌, List, [], ◌++◌, Contains, All, length, take, get_or, refl, subst, arith}
 use Rattle.std.proofs.lemmas.List.{take_all, get_or_default}
 use Rattle.std.proofs.lemmas.List.Elements.{Contains-get_or}
 use Rattle.word_rows.specs.Rows.{IsRow}
@@ -11,15 +11,14 @@ use Rattle.map_modules.specs.Matrices.{apply}
 use Rattle.map_modules.proofs.Lemmas.{apply_is_bilinear}
 use Rattle.affine_prog.specs.declared.Program.{Program}
 use Rattle.affine_prog.specs.declared.Assign.{Assign}
-use Rattle.affine_prog.specs.declared.Assign.TheVariants.{Any}
 use Rattle.affine_prog.specs.declared.Kind.TheVariants.{Do}
 use Rattle.affine_prog.specs.Assignments.{position_of}
 use Rattle.affine_prog.specs.Programs.{edge, IsWellFormed}
 use Rattle.affine_prog.specs.Spans.{IsStateAt}
-use Rattle.affine_prog.proofs.Lemmas.{step_placed, open_states_use_few}
-use Rattle.reach_modules.specs.Made.{Makes, Spans, images_of}
-use Rattle.reach_modules.specs.Moves.{IsMatrixOf}
-use Rattle.reach_modules.proofs.Laws.{matrix_is_row, none_spans, images_more}
+use Rattle.affine_prog.proofs.Lemmas.{step_placed, open_states_use_few, matrix_is_row}
+use Rattle.row_images.specs.States.{Makes, Spans, IsMatrixOf}
+use Rattle.row_images.specs.Images.{images_of}
+use Rattle.row_images.proofs.Laws.{are_images, images_span}
 use Rattle.block_program.specs.Chains.{IsInner}
 use Rattle.block_program.specs.Pushes.{MakesOf, CountsBases}
 use Rattle.block_program.proofs.Along.{open_row}
@@ -28,14 +27,8 @@ use Rattle.block_program.proofs.Inner.{open_comes, open_goes}
 
 -- there are rows that span what assignments make of one row, and of the rows of a list
 module _ (assigns : List Assign) (placed : All (λ a. position_of a < 16) assigns) where
-  spans_of_row : (v : List ℕ) → (i : ℕ) → i ≤ length assigns → IsRow 17 v
-      → (rows : List (List ℕ)) × Spans rows (Makes (IsMatrixOf (take i assigns)) v)
-  spans_of_row v zero within row = (v ∷ [], none_spans v row)
-  spans_of_row v (suc i) within row =
-      let h = spans_of_row v i (omega arith) row in
-      let more : List (List ℕ) = flat_map (images_of (get_or assigns i (Any 0))) h.0 in
-      let e : i + 1 ≡ suc i = omega arith in
-      (more, subst (λ (n : ℕ). Spans more (Makes (IsMatrixOf (take n assigns)) v)) e (images_more assigns i v h.0 (Any 0) (omega arith) placed h.1))
+  spans_of_row : (v : List ℕ) → IsRow 17 v → Spans (images_of 1 assigns v) (Makes (IsMatrixOf assigns) v)
+  spans_of_row v row = images_span assigns v (images_of 1 assigns v) (are_images 1 (omega arith) assigns v placed row)
 
   spans_of_rows : (rows : List (List ℕ)) → AreRows 17 (Contains rows) → (i : ℕ) → i ≤ length rows
       → (all : List (List ℕ)) × Spans all (Products apply (IsMatrixOf assigns) (Contains (take i rows)))
@@ -43,11 +36,10 @@ module _ (assigns : List Assign) (placed : All (λ a. position_of a < 16) assign
   spans_of_rows rows are (suc i) within =
       let h = spans_of_rows rows are i (omega arith) in
       let row = get_or rows i [] in
-      let one = spans_of_row row (length assigns) (omega arith) (are row (Contains-get_or rows i [] (omega arith))) in
-      let here : Spans one.0 (Makes (IsMatrixOf assigns) row) = subst (λ xs. Spans one.0 (Makes (IsMatrixOf xs) row)) (take_all (length assigns) assigns (omega arith)) one.1 in
-      let both : List (List ℕ) = h.0 ++ one.0 in
+      let here = spans_of_row row (are row (Contains-get_or rows i [] (omega arith))) in
+      let both : List (List ℕ) = h.0 ++ images_of 1 assigns row in
       let e : i + 1 ≡ suc i = omega arith in
-      (both, subst (λ (n : ℕ). Spans both (Products apply (IsMatrixOf assigns) (Contains (take n rows)))) e (made_of_more (IsMatrixOf assigns) rows i row h.0 one.0 (omega arith) (get_or_default rows i [] row (omega arith)) h.1 here))
+      (both, subst (λ (n : ℕ). Spans both (Products apply (IsMatrixOf assigns) (Contains (take n rows)))) e (made_of_more (IsMatrixOf assigns) rows i row h.0 (images_of 1 assigns row) (omega arith) (get_or_default rows i [] row (omega arith)) h.1 here))
 
 module _ (program : Program) (u v : ℕ) (assigns : List Assign) where
   state_comes : IsInner program v → Contains program.edges (edge u v (Do assigns)) → (state : List ℕ) → IsStateAt program v state → Products apply (IsMatrixOf assigns) (IsStateAt program u) state

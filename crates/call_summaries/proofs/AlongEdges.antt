@@ -14,7 +14,7 @@ use Rattle.affine_prog.specs.Spans.{rows_at, IsMapTo}
 use Rattle.call_summaries.specs.declared.NodeRow.{NodeRow}
 use Rattle.call_summaries.specs.NodeRows.{IsSound, AreSound}
 use Rattle.call_summaries.specs.Growth.{Grows, Lists}
-use Rattle.call_summaries.specs.Images.{IsPrepared}
+use Rattle.row_images.specs.Images.{IsPrepared}
 use Rattle.call_summaries.specs.Tables.{edge_at, assigns_of, ArePrepared}
 use Rattle.call_summaries.specs.Pushes.{ForwardBy, Forward, BackBy, Back, PushesAll}
 use Rattle.call_summaries.proofs.Listing.{all_rows, nothing_in, taken_in, now_taken, earlier_or_now}

@@ -1,5 +1,5 @@
 -- What an edge makes of images: it is sound, and spans what the edge makes under all choices.
-use Rattle.std.proofs.Common.{ℕ, List, Contains, refl}
+use Rattle.std.proofs.Common.{ℕ, List, Contains, refl, arith}
 use Rattle.word_rows.specs.Rows.{IsRow}
 use Rattle.row_modules.specs.Modules.{IsCombination, IsModule}
 use Rattle.row_modules.proofs.Laws.{generator, mapped_into, module_least}
@@ -13,22 +13,22 @@ use Rattle.affine_prog.specs.LevelPaths.{step_map}
 use Rattle.affine_prog.specs.Laws.{linear_call_map, IsStepOf}
 use Rattle.affine_prog.proofs.Lemmas.{ArePlaced}
 use Rattle.call_summaries.specs.NodeRows.{IsSound}
-use Rattle.call_summaries.specs.Images.{AreImages, IsConstantRow, images_of}
-use Rattle.call_summaries.proofs.Imaging.{are_images, steps_are_rows}
+use Rattle.row_images.specs.Images.{AreImages, IsConstantRow, images_of}
+use Rattle.row_images.proofs.Laws.{made_are_rows, are_images}
 use Rattle.call_summaries.proofs.Soundness.{sound_modules, step_sound, call_sound, product_is_linear}
 
-module _ (assigns : List Assign) (placed : ArePlaced assigns) (m : List ℕ) (row : IsRow 289 m) (constant : IsConstantRow m) where
+module _ (assigns : List Assign) (placed : ArePlaced assigns) (m : List ℕ) (row : IsRow 289 m) (constant : IsConstantRow 17 m) where
   abbrev images : List (List ℕ)
-  images = images_of assigns m
+  images = images_of 17 assigns m
 
-  good : AreImages assigns m images
-  good = are_images assigns m placed row constant
+  good : AreImages 17 assigns m images
+  good = are_images 17 (omega arith) assigns m placed row constant
 
   image_in : (x : List ℕ) → Contains images x → IsCombination 289 (IsStepOf assigns m) x
   image_in x h = good.same.there x (generator 289 (Contains images) good.rows x h)
 
   choice_in : (words : List ℕ) → Choice assigns words → IsCombination 289 (Contains images) (step_map assigns words m)
-  choice_in words choice = good.same.back (step_map assigns words m) (generator 289 (IsStepOf assigns m) (steps_are_rows assigns m) (step_map assigns words m) (words, choice, refl))
+  choice_in words choice = good.same.back (step_map assigns words m) (generator 289 (IsStepOf assigns m) (made_are_rows 17 assigns m) (step_map assigns words m) (words, choice, refl))
 
   pub image_is_row : (x : List ℕ) → Contains images x → IsRow 289 x
   image_is_row x h = good.rows x h
@@ -52,5 +52,5 @@ module _ (assigns : List Assign) (placed : ArePlaced assigns) (m : List ℕ) (ro
         → IsSound program v (product (linear_extension program.registers (slots_of program (owner_of program u)) callee) x)
     called_sound q u v callee x contains g c h =
         let e = linear_extension program.registers (slots_of program (owner_of program u)) callee in
-        mapped_into 289 289 (product e) (product_is_linear e) (IsStepOf assigns m) (IsSound program v) (steps_are_rows assigns m) (sound_modules program formed v)
+        mapped_into 289 289 (product e) (product_is_linear e) (IsStepOf assigns m) (IsSound program v) (made_are_rows 17 assigns m) (sound_modules program formed v)
         (λ y (words, choice, is). rw is (call_sound program formed q u v assigns words callee m contains choice g c)) x (image_in x h)

@@ -5,7 +5,7 @@ use Rattle.row_modules.specs.Bases.{IsLeadingBasis}
 use Rattle.map_modules.specs.Matrices.{product, linear_extension}
 use Rattle.map_modules.proofs.Lemmas.{IsRow-matrix}
 use Rattle.affine_prog.specs.declared.Assign.{Assign}
-use Rattle.call_summaries.specs.Images.{images_of}
+use Rattle.row_images.specs.Images.{images_of}
 use Rattle.call_summaries.specs.declared.NodeRow.{NodeRow}
 use Rattle.call_summaries.specs.Growth.{Offered, Called, Returned, Grows, Takes}
 use Rattle.call_summaries.proofs.Listing.{first_in, only_in, map_in, map_out, taken_in, now_taken, earlier_or_now}
@@ -77,7 +77,7 @@ called_rows registers slots to callees images u m h = let e = h.is in rw e (IsRo
 
 -- a loop over callers
 module _ (before : List Assign) (extended : List ℕ) (to : ℕ) (callers images : List (List ℕ)) (i : ℕ) (x : List ℕ) (below : i < length callers) (is : x ≡ get_or callers i x)
-    (images_are : images ≡ images_of before x) where
+    (images_are : images ≡ images_of 17 before x) where
   pub returned_less : (u : ℕ) (m : List ℕ) → Offered to (map (λ y. product extended y) images) u m → Returned before extended to callers u m
   returned_less u m h =
       let o = map_out (λ y. product extended y) images m h.2 in
@@ -96,7 +96,7 @@ module _ (before : List Assign) (extended : List ℕ) (to : ℕ) (callers images
     | inl k ↦ inl (record { there = h.there; caller = h.caller; image = h.image; of_callers = k; of_images = h.of_images; is = h.is })
     | inr e ↦
         let f = h.is in
-        let k : Contains images h.image = subst (λ l. Contains l h.image) (ap (images_of before) e ∙ sym images_are) h.of_images in
+        let k : Contains images h.image = subst (λ l. Contains l h.image) (ap (images_of 17 before) e ∙ sym images_are) h.of_images in
         inr (h.there, rw f (IsRow-matrix _), rw f (map_in (λ y. product extended y) images h.image k))
   ]
 

@@ -2,9 +2,6 @@ pub mod Listing
 pub mod Growing
 pub mod Taking
 pub mod InTurn
-pub mod Zeros
-pub mod Columns
-pub mod Imaging
 pub mod Soundness
 pub mod Covering
 pub mod ByNumber

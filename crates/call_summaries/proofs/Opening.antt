@@ -12,9 +12,9 @@ use Rattle.map_modules.specs.Matrices.{entry, identity, linear_extension}
 use Rattle.map_modules.proofs.Lemmas.{entry-matrix, matrix_from_entries, same_matrix}
 use Rattle.affine_prog.specs.LevelPaths.{opening_map}
 use Rattle.affine_prog.specs.Laws.{slot_words}
-use Rattle.call_summaries.specs.Images.{column}
+use Rattle.row_images.specs.Images.{column}
 use Rattle.call_summaries.specs.Openings.{OpeningsFirst}
-use Rattle.call_summaries.proofs.Columns.{entry-column, column_length}
+use Rattle.row_images.proofs.Laws.{cell-column, column_length}
 use Rattle.call_summaries.proofs.Listing.{first_in, only_in}
 
 in_identity : (i : ℕ) → i < 17 → (nat_lt i 16 || (i == 16)) ≡ true
@@ -56,10 +56,10 @@ module _ (registers slots i : ℕ) (below : i < 16) (apart : bit_and registers s
     | inr other ↦ absurd (false≢true (sym (ne_eqb (bit_at slots i) 1 other) ∙ slot))
   ]
 
-  pub slot_row : slot_words registers slots (unit 16 i) ≡ column i 1
+  pub slot_row : slot_words registers slots (unit 16 i) ≡ column 17 i 1
   slot_row =
-      sym (matrix_from_entries (column i 1) (λ k j. if has registers k || (k == 16) then 0 else if has slots k && (j == 16) then slice_index (unit 16 i) k else 0) (column_length i 1)
-      (λ k j row at_column. entry-column i 1 k j (omega arith) row at_column ∙ elim (cases_eq k i) [
+      sym (matrix_from_entries (column 17 i 1) (λ k j. if has registers k || (k == 16) then 0 else if has slots k && (j == 16) then slice_index (unit 16 i) k else 0) (column_length 17 i 1)
+      (λ k j row at_column. cell-column 17 (omega arith) i 1 k j (omega arith) row at_column ∙ elim (cases_eq k i) [
         | inl e ↦ rw e (here (has registers i) (i == 16) (has slots i) (j == 16) (i == i) (slice_index (unit 16 i) i) not_register (ne_eqb i 16 (λ f. omega arith)) slot (eq-eqb i i refl) (unit_at 16 i below))
         | inr other ↦ ap (λ b. if b && (j == 16) then 1 else 0) (ne_eqb k i other) ∙ elsewhere (has registers k || (k == 16)) (has slots k && (j == 16)) (slice_index (unit 16 i) k) (unit_elsewhere 16 i k other)
       ]))
@@ -97,15 +97,15 @@ module _ (registers slots n : ℕ) (rows : List (List ℕ)) (first : OpeningsFir
     only = λ m h. elim (first.only m h) [ inl e ↦ inl e | inr (i, below, slot, is) ↦ inr (i, omega arith, slot, is) ];
   }
 
-  pub openings_added : (more : List (List ℕ)) → IsTrue (has slots n) → more ≡ rows ++ column n 1 ∷ [] → OpeningsFirst registers slots (n + 1) more
+  pub openings_added : (more : List (List ℕ)) → IsTrue (has slots n) → more ≡ rows ++ column 17 n 1 ∷ [] → OpeningsFirst registers slots (n + 1) more
   openings_added more slot more_is = rw more_is (record {
-    zeros = Contains-append_left rows (column n 1 ∷ []) _ first.zeros;
+    zeros = Contains-append_left rows (column 17 n 1 ∷ []) _ first.zeros;
     each = λ m (i, below, there, is). elim (cases_eq i n) [
-      | inl e ↦ Contains-append_right rows (column n 1 ∷ []) m (let f : m ≡ column n 1 = is ∙ ap (λ (k : ℕ). column k 1) e in rw f (first_in (column n 1) []))
-      | inr other ↦ Contains-append_left rows (column n 1 ∷ []) m (first.each m (i, omega arith, there, is))
+      | inl e ↦ Contains-append_right rows (column 17 n 1 ∷ []) m (let f : m ≡ column 17 n 1 = is ∙ ap (λ (k : ℕ). column 17 k 1) e in rw f (first_in (column 17 n 1) []))
+      | inr other ↦ Contains-append_left rows (column 17 n 1 ∷ []) m (first.each m (i, omega arith, there, is))
     ];
-    only = λ m h. elim (Contains-append_cases rows (column n 1 ∷ []) m h) [
+    only = λ m h. elim (Contains-append_cases rows (column 17 n 1 ∷ []) m h) [
       | inl k ↦ elim (first.only m k) [ inl e ↦ inl e | inr (i, below, there, is) ↦ inr (i, omega arith, there, is) ]
-      | inr k ↦ inr (n, omega arith, slot, only_in (column n 1) m k)
+      | inr k ↦ inr (n, omega arith, slot, only_in (column 17 n 1) m k)
     ];
   })

@@ -15,7 +15,7 @@ use Rattle.affine_prog.specs.Laws.{slot_words, IsOpening}
 use Rattle.affine_prog.proofs.Lemmas.{openings_span}
 use Rattle.call_summaries.specs.declared.NodeRow.{NodeRow}
 use Rattle.call_summaries.specs.NodeRows.{InModule, IsSound}
-use Rattle.call_summaries.specs.Images.{column}
+use Rattle.row_images.specs.Images.{column}
 use Rattle.call_summaries.specs.Growth.{Offered, Grows, Takes}
 use Rattle.call_summaries.specs.Solutions.{IsWanted}
 use Rattle.call_summaries.specs.Openings.{AreOpenings, OpensOne, Opens}
@@ -43,7 +43,7 @@ module _ (program : Program) (formed : IsWellFormed program) (p : ℕ) (within :
     | inl e ↦ rw e are.zeros
     | inr i ↦
         let u = i.member in
-        let e : m ≡ column u.position 1 = i.is ∙ ap (slot_words r s) u.is ∙ slot_row r s u.position u.within apart u.there in
+        let e : m ≡ column 17 u.position 1 = i.is ∙ ap (slot_words r s) u.is ∙ slot_row r s u.position u.within apart u.there in
         are.each m (u.position, u.within, u.there, e)
   ]
 

@@ -13,7 +13,7 @@ use Rattle.affine_prog.specs.Assignments.{position_of, Choice, matrix_of}
 use Rattle.affine_prog.specs.Spans.{rows_at}
 use Rattle.call_summaries.specs.declared.NodeRow.{NodeRow}
 use Rattle.call_summaries.specs.NodeRows.{InModule, IsSound, AreSound}
-use Rattle.call_summaries.specs.Images.{images_of, IsConstantRow}
+use Rattle.row_images.specs.Images.{images_of, IsConstantRow}
 use Rattle.call_summaries.specs.Growth.{Offered, Called, Returned, Takes}
 use Rattle.call_summaries.specs.Pushes.{call_of, ForwardBy, BackBy, PushesForward, PushesBack}
 use Rattle.call_summaries.proofs.Listing.{all_rows}
@@ -32,12 +32,12 @@ module _ (program : Program) (formed : IsWellFormed program) (old : List (List (
   pub row_sound : (u : ℕ) (m : List ℕ) → Contains (rows_at old u) m → IsSound program u m
   row_sound u m h = sound u m (generator 289 (Contains (rows_at old u)) (all_rows old all u) m h)
 
-  pub row_constant : (u : ℕ) (rows : List (List ℕ)) → rows ≡ rows_at old u → (m : List ℕ) → Contains rows m → IsConstantRow m
+  pub row_constant : (u : ℕ) (rows : List (List ℕ)) → rows ≡ rows_at old u → (m : List ℕ) → Contains rows m → IsConstantRow 17 m
   row_constant u rows is m h = (sound_constant program formed u m (row_sound u m (subst (λ l. Contains l m) is h))).constant
 
 module _ (program : Program) (formed : IsWellFormed program) (e : Edge) (contains : Contains program.edges e) where
   -- assignments
-  module _ (assigns : List Assign) (is : e.kind ≡ Do assigns) (m : List ℕ) (own : IsSound program e.from m) (images : List (List ℕ)) (images_are : images ≡ images_of assigns m) where
+  module _ (assigns : List Assign) (is : e.kind ≡ Do assigns) (m : List ℕ) (own : IsSound program e.from m) (images : List (List ℕ)) (images_are : images ≡ images_of 17 assigns m) where
     pub step_less : (u : ℕ) (x : List ℕ) → Offered e.to images u x → IsSound program u x
     step_less u x h =
         let k = sound_constant program formed e.from m own in let there = h.0 in
@@ -64,21 +64,21 @@ module _ (program : Program) (formed : IsWellFormed program) (e : Edge) (contain
     placed_here = before_placed program formed e contains q before is
 
     -- a callee's map, and an image of a caller's
-    pair_sound : (callee m x : List ℕ) → IsSound program (exit_of program q) callee → IsSound program e.from m → Contains (images_of before m) x
+    pair_sound : (callee m x : List ℕ) → IsSound program (exit_of program q) callee → IsSound program e.from m → Contains (images_of 17 before m) x
         → IsSound program e.to (product (linear_extension program.registers slots callee) x)
     pair_sound callee m x g own h =
         let k = sound_constant program formed e.from m own in
         called_sound before placed_here m k.row k.constant program formed q e.from e.to callee x (of_kind program formed e contains (Call q before) is) g own h
 
     pair_covered : (S : List ℕ → Type 0) → IsModule 289 S → (callee m : List ℕ) → IsSound program e.from m
-        → ((x : List ℕ) → Contains (images_of before m) x → S (product (linear_extension program.registers slots callee) x))
+        → ((x : List ℕ) → Contains (images_of 17 before m) x → S (product (linear_extension program.registers slots callee) x))
         → (words : List ℕ) → Choice before words → S (call_of program e.from (matrix_of before words) callee m)
     pair_covered S is_module callee m own h words choice =
         let k = sound_constant program formed e.from m own in
         call_covered before placed_here m k.row k.constant program.registers slots S is_module callee h words choice
 
     module _ (m : List ℕ) (own : IsSound program e.from m) (r s : ℕ) (callees images : List (List ℕ)) (r_is : r ≡ program.registers) (s_is : s ≡ slots)
-        (callees_are : callees ≡ rows_at old (exit_of program q)) (images_are : images ≡ images_of before m) where
+        (callees_are : callees ≡ rows_at old (exit_of program q)) (images_are : images ≡ images_of 17 before m) where
       extension_is : (n x : List ℕ) → product (linear_extension r s n) x ≡ product (linear_extension program.registers slots n) x
       extension_is n x = ap₂ (λ a b. product (linear_extension a b n) x) r_is s_is
 

@@ -25,7 +25,7 @@ use Rattle.affine_prog.proofs.Lemmas.{step_is_linear}
 use Rattle.affine_prog.proofs.Lemmas.{call_map-affine, call_of_callees, call_of_callers}
 use Rattle.affine_prog.proofs.Lemmas.{level_map}
 use Rattle.call_summaries.specs.NodeRows.{IsSound}
-use Rattle.call_summaries.specs.Images.{IsConstantRow}
+use Rattle.row_images.specs.Images.{IsConstantRow}
 use Rattle.call_summaries.specs.Pushes.{call_of}
 
 pub call_is_linear_in_callers : (registers slots : ℕ) (before callee : List ℕ) → IsLinear 289 289 (linear_call_map registers slots before callee)
@@ -40,7 +40,7 @@ product_is_linear after = record { rows = λ v r. IsRow-matrix _; sum = product_
 -- rows whose last row is constant are a module
 pub record IsConstantMap (m : List ℕ) : Type 0 where
   pub row : IsRow 289 m
-  pub constant : IsConstantRow m
+  pub constant : IsConstantRow 17 m
 
 constant_maps : IsModule 289 IsConstantMap
 constant_maps = record {

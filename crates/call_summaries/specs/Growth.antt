@@ -22,7 +22,7 @@ use Rattle.affine_prog.specs.declared.Assign.{Assign}
 use Rattle.affine_prog.specs.Spans.{rows_at}
 use Rattle.call_summaries.specs.declared.NodeRow.{NodeRow}
 use Rattle.call_summaries.specs.NodeRows.{node_row, IsListed, InModule, total}
-use Rattle.call_summaries.specs.Images.{images_of}
+use Rattle.row_images.specs.Images.{images_of}
 use Rattle.call_summaries.specs.Work.{row_count}
 
 abbrev pub Offered : ℕ → List (List ℕ) → ℕ → List ℕ → Type 0
@@ -41,7 +41,7 @@ pub record Returned (before : List Assign) (extended : List ℕ) (to : ℕ) (cal
   pub caller : List ℕ
   pub image : List ℕ
   pub of_callers : Contains callers caller
-  pub of_images : Contains (images_of before caller) image
+  pub of_images : Contains (images_of 17 before caller) image
   pub is : m ≡ product extended image
 
 pub record Grows (offered : ℕ → List ℕ → Type 0) (old new : List (List (List ℕ))) (before after : ℕ) : Type 0 where

@@ -1,6 +1,5 @@
 pub mod Work
 pub mod NodeRows
-pub mod Images
 pub mod Growth
 pub mod Tables
 pub mod Pushes

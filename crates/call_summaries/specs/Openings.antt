@@ -13,12 +13,12 @@ use Rattle.affine_prog.specs.Programs.{entry_of, slots_of}
 use Rattle.affine_prog.specs.LevelPaths.{opening_map}
 use Rattle.call_summaries.specs.declared.NodeRow.{NodeRow}
 use Rattle.call_summaries.specs.NodeRows.{InModule}
-use Rattle.call_summaries.specs.Images.{column}
+use Rattle.row_images.specs.Images.{column}
 use Rattle.call_summaries.specs.Growth.{Lists}
 use Rattle.call_summaries.specs.Solutions.{IsWanted}
 
 abbrev pub IsSlotRow : ℕ → ℕ → List ℕ → Type 0
-IsSlotRow slots n m = (i : ℕ) × (i < n) × IsTrue (has slots i) × (m ≡ column i 1)
+IsSlotRow slots n m = (i : ℕ) × (i < n) × IsTrue (has slots i) × (m ≡ column 17 i 1)
 
 pub record OpeningsFirst (registers slots n : ℕ) (rows : List (List ℕ)) : Type 0 where
   pub zeros : Contains rows (opening_map registers slots (replicate 16 0))

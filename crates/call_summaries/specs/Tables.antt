@@ -14,7 +14,7 @@ use Rattle.affine_prog.specs.declared.Assign.{Assign}
 use Rattle.affine_prog.specs.declared.Kind.TheVariants.{Do, Call}
 use Rattle.affine_prog.specs.Programs.{edge, exit_of}
 use Rattle.affine_prog.specs.Spans.{rows_at}
-use Rattle.call_summaries.specs.Images.{IsPrepared}
+use Rattle.row_images.specs.Images.{IsPrepared}
 
 abbrev pub edge_at : Program → ℕ → Edge
 edge_at program k = slice_index_or program.edges k (edge 0 0 (Do []))

@@ -12,7 +12,6 @@
 #![tactic(auto)]
 
 mod answers;
-mod images;
 mod levels;
 mod lookups;
 mod openings;

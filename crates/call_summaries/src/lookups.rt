@@ -5,10 +5,10 @@ ghost use Rattle.affine_prog.specs.Programs.{IsWellFormed};
 ghost use Rattle.call_summaries.specs.Tables.{LeaveFirst, ReturnFirst, ArePrepared, AreTables};
 
 use crate::Tables;
-use crate::images::prepare;
 use affine_prog::{Kind, Program};
 use lead_basis::Memory;
 use map_modules::Mat;
+use row_images::prepare;
 use sqlite_items::Items;
 use std::alloc::Global;
 

@@ -5,18 +5,18 @@ ghost use Rattle.row_modules.specs.Bases.{IsLeadingBasis};
 ghost use Rattle.affine_prog.specs.Assignments.{position_of};
 ghost use Rattle.affine_prog.specs.Programs.{exit_of, owner_of, slots_of, IsWellFormed};
 ghost use Rattle.affine_prog.specs.Spans.{rows_at};
-ghost use Rattle.call_summaries.specs.Images.{IsConstantRow, IsPrepared};
+ghost use Rattle.row_images.specs.Images.{IsConstantRow, IsPrepared};
 ghost use Rattle.call_summaries.specs.NodeRows.{AreSound, IsSound};
 ghost use Rattle.call_summaries.specs.Growth.{Returned, Grows, Takes};
 ghost use Rattle.call_summaries.specs.Tables.{assigns_of, ReturnsTo};
 ghost use Rattle.call_summaries.specs.Pushes.{PushesForward, PushesBack};
 
 use crate::NodeRow;
-use crate::images::images_along;
 use crate::take::{take_calls, take_products, take_rows};
 use affine_prog::{Assign, Edge, Kind, Program};
 use lead_basis::{Memory, Steps};
 use map_modules::{Mat, MatBasis, extend_call};
+use row_images::images_along;
 use sqlite_items::Items;
 use std::alloc::Global;
 use std::sync::ledger::Ledger;
@@ -115,7 +115,7 @@ fn take_callers<L: Ledger>(
 ) -> Result<(), Memory>
     requires placed { All (λ a. position_of a < 16) before.now }
     requires prepared { IsPrepared before.now prepared.now }
-    requires callers { (m : List ℕ) → Contains callers.now m → IsConstantRow m }
+    requires callers { (m : List ℕ) → Contains callers.now m → IsConstantRow 17 m }
     requires to { to < length bases.old.items }
     requires bases { All (IsLeadingBasis 289) bases.old.items }
     ensures grows { Grows (Returned before.now extended.now to callers.now) bases.old.items bases.new.items steps.old steps.new }

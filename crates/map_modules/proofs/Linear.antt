@@ -4,32 +4,31 @@ use Rattle.word_rows.specs.Words.{word}
 use Rattle.word_rows.specs.Rows.{words_of, plus, IsRow}
 use Rattle.word_rows.proofs.Laws.{word-plus_first, word-plus_second, get_or-wrapped_plus, length-wrapped_plus}
 use Rattle.row_modules.specs.Positions.{has}
-use Rattle.map_modules.specs.Matrices.{entry, matrix, vector, sum_below, product, apply, after_affine, linear_extension}
+use Rattle.map_modules.specs.Matrices.{cell, table, entry, matrix, vector, sum_below, moved, product, apply, after_affine, linear_extension}
 use Rattle.map_modules.proofs.Sums.{word-word, word-mul, sum_below_same, sum_below-plus}
-use Rattle.map_modules.proofs.Entries.{entry-matrix, matrix_from_entries, IsRow-matrix, get_or-vector, vector_from_index, IsRow-vector}
+use Rattle.map_modules.proofs.Entries.{cell-table, table_from_cells, IsRow-table}
 
 -- under one wrap, a sum whose parts are wrapped before
 wrapped_plus : (a c b : ℕ) → word (word a + c * word b) ≡ word (a + c * b)
 wrapped_plus a c b = word-plus_first a c (word b) ∙ word-plus_second a c b
 
 -- a matrix, or a row, whose numbers are the sums of two others'
+pub table-plus : (k c : ℕ) (h f g : ℕ → ℕ → ℕ) → ((i j : ℕ) → i < 17 → j < k → word (h i j) ≡ word (f i j + c * g i j))
+    → table k h ≡ words_of (plus c (table k f) (table k g))
+table-plus k c h f g same =
+    let a = IsRow-table k f in let b = IsRow-table k g in let e : length (table k f) ≡ length (table k g) = a.width ∙ sym b.width in
+    sym (table_from_cells k (words_of (plus c (table k f) (table k g))) h (length-wrapped_plus c (table k f) (table k g) e ∙ a.width)
+    (λ i j row column. get_or-wrapped_plus c (table k f) (table k g) (k * i + j) e
+    ∙ (let p = cell-table k f i j row column in let q = cell-table k g i j row column in let s : word (cell k (table k f) i j + c * cell k (table k g) i j) ≡ word (word (f i j) + c * word (g i j)) = cc in s)
+    ∙ wrapped_plus (f i j) c (g i j) ∙ sym (same i j row column)))
+
 pub matrix-plus : (c : ℕ) (h f g : ℕ → ℕ → ℕ) → ((i j : ℕ) → i < 17 → j < 17 → word (h i j) ≡ word (f i j + c * g i j))
     → matrix h ≡ words_of (plus c (matrix f) (matrix g))
-matrix-plus c h f g same =
-    let a = IsRow-matrix f in let b = IsRow-matrix g in let e : length (matrix f) ≡ length (matrix g) = a.width ∙ sym b.width in
-    sym (matrix_from_entries (words_of (plus c (matrix f) (matrix g))) h (length-wrapped_plus c (matrix f) (matrix g) e ∙ a.width)
-    (λ i j row column. get_or-wrapped_plus c (matrix f) (matrix g) (17 * i + j) e
-    ∙ (let p = entry-matrix f i j row column in let q = entry-matrix g i j row column in let s : word (entry (matrix f) i j + c * entry (matrix g) i j) ≡ word (word (f i j) + c * word (g i j)) = cc in s)
-    ∙ wrapped_plus (f i j) c (g i j) ∙ sym (same i j row column)))
+matrix-plus = table-plus 17
 
 pub vector-plus : (c : ℕ) (h f g : ℕ → ℕ) → ((i : ℕ) → i < 17 → word (h i) ≡ word (f i + c * g i))
     → vector h ≡ words_of (plus c (vector f) (vector g))
-vector-plus c h f g same =
-    let a = IsRow-vector f in let b = IsRow-vector g in let e : length (vector f) ≡ length (vector g) = a.width ∙ sym b.width in
-    sym (vector_from_index (words_of (plus c (vector f) (vector g))) h (length-wrapped_plus c (vector f) (vector g) e ∙ a.width)
-    (λ i within. get_or-wrapped_plus c (vector f) (vector g) i e
-    ∙ (let p = get_or-vector f i within in let q = get_or-vector g i within in let s : word (get_or (vector f) i 0 + c * get_or (vector g) i 0) ≡ word (word (f i) + c * word (g i)) = cc in s)
-    ∙ wrapped_plus (f i) c (g i) ∙ sym (same i within)))
+vector-plus c h f g same = table-plus 1 c (λ i j. h i) (λ i j. f i) (λ i j. g i) (λ i j row column. same i row)
 
 -- sums of products, in their left and right factors
 left_sum : (n c : ℕ) (s a b x : ℕ → ℕ) → ((k : ℕ) → k < n → word (s k) ≡ word (a k + c * b k))
@@ -60,10 +59,13 @@ product_first m c v w left right =
     matrix-plus c _ _ _ (λ i j row column. left_sum 17 c (λ k. entry (words_of (plus c v w)) i k) (λ k. entry v i k) (λ k. entry w i k) (λ k. entry m k j)
     (λ k h. plus_at 289 c v w left right (17 * i + k)))
 
+pub moved_second : (k : ℕ) (m : List ℕ) → IsAdditive (17 * k) (moved k m)
+moved_second k m c v w left right =
+    table-plus k c _ _ _ (λ i j row column. right_sum 17 c (λ l. cell k (words_of (plus c v w)) l j) (λ l. cell k v l j) (λ l. cell k w l j) (λ l. entry m i l)
+    (λ l h. plus_at (17 * k) c v w left right (k * l + j)))
+
 pub product_second : (m : List ℕ) → IsAdditive 289 (product m)
-product_second m c v w left right =
-    matrix-plus c _ _ _ (λ i j row column. right_sum 17 c (λ k. entry (words_of (plus c v w)) k j) (λ k. entry v k j) (λ k. entry w k j) (λ k. entry m i k)
-    (λ k h. plus_at 289 c v w left right (17 * k + j)))
+product_second = moved_second 17
 
 pub apply_first : (x : List ℕ) → IsAdditive 289 (λ a. apply a x)
 apply_first x c v w left right =

@@ -4,10 +4,10 @@ use Rattle.std.proofs.lemmas.Bool.{eq-eqb, cases_lt, lt-ltb}
 use Rattle.word_rows.specs.Words.{word}
 use Rattle.word_rows.specs.Rows.{IsRow}
 use Rattle.word_rows.proofs.Laws.{get_or-words_of}
-use Rattle.map_modules.specs.Matrices.{entry, matrix, sum_below, identity, product, apply, after_affine}
+use Rattle.map_modules.specs.Matrices.{cell, table, entry, sum_below, identity, moved, product, apply, assigned, after_affine}
 use Rattle.map_modules.proofs.Sums.{word-word, word-mul, sum_below_same, sum_below-times, sum_below-sum_below, sum_below_pick}
 use Rattle.map_modules.proofs.Conditions.{and_true, or_true, same_tests}
-use Rattle.map_modules.proofs.Entries.{entry-matrix, matrix_from_entries, same_matrix, get_or-vector, vector_from_index, same_vector}
+use Rattle.map_modules.proofs.Entries.{cell-table, table_from_cells, matrix_from_entries, same_table, one_column}
 
 -- both ways to sum x k * (y k l * z l)
 both_ways : (n : ℕ) (x : ℕ → ℕ) (y : ℕ → ℕ → ℕ) (z : ℕ → ℕ) (inner outer : ℕ → ℕ)
@@ -24,18 +24,27 @@ both_ways n x y z inner outer inside outside =
     ∙ sum_below_same n (λ k. z l * (x k * y k l)) (λ k. x k * (y k l * z l)) (λ k h. ap word (let e : z l * (x k * y k l) ≡ x k * (y k l * z l) = omega arith in e))))
 
 -- a word of a matrix of numbers, wrapped once more
-entry_word : (f : ℕ → ℕ → ℕ) (i j : ℕ) → i < 17 → j < 17 → word (entry (matrix f) i j) ≡ word (f i j)
-entry_word f i j row column = ap word (entry-matrix f i j row column) ∙ word-word (f i j)
+cell_word : (k : ℕ) (f : ℕ → ℕ → ℕ) (i j : ℕ) → i < 17 → j < k → word (cell k (table k f) i j) ≡ word (f i j)
+cell_word k f i j row column = ap word (cell-table k f i j row column) ∙ word-word (f i j)
+
+-- a map moves a state as a matrix of one column
+pub moved-apply : (m v : List ℕ) → moved 1 m v ≡ apply m v
+moved-apply m v =
+    same_table 1 _ _ (λ i j row column.
+    sum_below_same 17 (λ l. entry m i l * cell 1 v l j) (λ l. entry m i l * slice_index v l)
+    (λ l h. ap (λ (p : ℕ). word (entry m i l * slice_index v p)) (one_column l j column)))
+
+pub moved-product : (k : ℕ) (a b v : List ℕ) → moved k a (moved k b v) ≡ moved k (product a b) v
+moved-product k a b v =
+    same_table k _ _ (λ i j row column. both_ways 17 (λ l. entry a i l) (entry b) (λ l. cell k v l j) (λ l. cell k (moved k b v) l j) (λ l. entry (product a b) i l)
+    (λ l h. cell_word k _ l j h column) (λ l h. cell_word 17 _ i l row h))
 
 pub product-product : (a b c : List ℕ) → product a (product b c) ≡ product (product a b) c
-product-product a b c =
-    same_matrix _ _ (λ i j row column. both_ways 17 (λ k. entry a i k) (entry b) (λ l. entry c l j) (λ k. entry (product b c) k j) (λ l. entry (product a b) i l)
-    (λ k h. entry_word _ k j h column) (λ l h. entry_word _ i l row h))
+product-product = moved-product 17
 
 pub apply-product : (after before v : List ℕ) → apply (product after before) v ≡ apply after (apply before v)
 apply-product after before v =
-    sym (same_vector _ _ (λ i row. both_ways 17 (λ k. entry after i k) (entry before) (λ l. slice_index v l) (λ k. slice_index (apply before v) k) (λ l. entry (product after before) i l)
-    (λ k h. ap word (get_or-vector _ k h) ∙ word-word _) (λ l h. entry_word _ i l row h)))
+    sym (moved-apply (product after before) v) ∙ sym (moved-product 1 after before v) ∙ ap (moved 1 after) (moved-apply before v) ∙ moved-apply after (apply before v)
 
 -- the words of the identity
 kept : (i : ℕ) → i < 17 → (nat_lt i 16 || (i == 16)) ≡ true
@@ -46,7 +55,7 @@ kept i row = elim (cases_lt i 16) [
 
 entry-identity : (i j : ℕ) → i < 17 → j < 17 → word (entry (identity 16) i j) ≡ word (if j == i then 1 else 0)
 entry-identity i j row column =
-    entry_word _ i j row column
+    cell_word 17 _ i j row column
     ∙ ap (λ b. word (if b then 1 else 0)) (and_true (i == j) (nat_lt i 16 || (i == 16)) (kept i row) ∙ same_tests i j)
 
 -- a sum along a row, or along a column, of the identity
@@ -67,24 +76,26 @@ column_sum j f column =
 pub row_word : (n : ℕ) (m : List ℕ) → IsRow n m → (p : ℕ) → word (get_or m p 0) ≡ get_or m p 0
 row_word n m row p = sym (get_or-words_of m p) ∙ ap (λ xs. get_or xs p 0) row.words
 
+pub moved-identity : (k : ℕ) (v : List ℕ) → IsRow (17 * k) v → moved k (identity 16) v ≡ v
+moved-identity k v row =
+    sym (table_from_cells k v _ row.width (λ i j within column. sym (row_sum i (λ l. cell k v l j) within ∙ row_word (17 * k) v row (k * i + j))))
+
 pub product-identity_first : (m : List ℕ) → IsRow 289 m → product (identity 16) m ≡ m
-product-identity_first m row =
-    sym (matrix_from_entries m _ row.width (λ i j within column. sym (row_sum i (λ k. entry m k j) within ∙ row_word 289 m row (17 * i + j))))
+product-identity_first = moved-identity 17
 
 pub product-identity_second : (m : List ℕ) → IsRow 289 m → product m (identity 16) ≡ m
 product-identity_second m row =
     sym (matrix_from_entries m _ row.width (λ i j within column. sym (column_sum j (λ k. entry m i k) column ∙ row_word 289 m row (17 * i + j))))
 
 pub apply-identity : (v : List ℕ) → IsRow 17 v → apply (identity 16) v ≡ v
-apply-identity v row =
-    sym (vector_from_index v _ row.width (λ i within. sym (row_sum i (λ k. slice_index v k) within ∙ row_word 17 v row i)))
+apply-identity v row = sym (moved-apply (identity 16) v) ∙ moved-identity 1 v row
 
 -- an affine assignment is a product from the left
-affine_word : (b : Bool) (i j : ℕ) (m row : List ℕ) → i < 17
-    → word (sum_below 17 (λ k. (if b then slice_index row k else entry (identity 16) i k) * entry m k j))
-    ≡ word (if b then sum_below 17 (λ l. slice_index row l * entry m l j) else entry m i j)
-affine_word true i j m row within = refl
-affine_word false i j m row within = row_sum i (λ k. entry m k j) within
+affine_word : (b : Bool) (i : ℕ) (form : List ℕ) (f : ℕ → ℕ) → i < 17
+    → word (sum_below 17 (λ l. (if b then slice_index form l else entry (identity 16) i l) * f l))
+    ≡ word (if b then sum_below 17 (λ l. slice_index form l * f l) else f i)
+affine_word true i form f within = refl
+affine_word false i form f within = row_sum i f within
 
 affine_entry : (b : Bool) (i k : ℕ) (row : List ℕ) → k < 17
     → word (if b then sum_below 17 (λ l. slice_index row l * entry (identity 16) l k) else entry (identity 16) i k)
@@ -92,10 +103,13 @@ affine_entry : (b : Bool) (i k : ℕ) (row : List ℕ) → k < 17
 affine_entry true i k row column = column_sum k (λ l. slice_index row l) column
 affine_entry false i k row column = refl
 
+pub assigned-moved : (k : ℕ) (v form : List ℕ) (at : ℕ) → assigned k v at form ≡ moved k (after_affine (identity 16) at form) v
+assigned-moved k v form at =
+    sym (same_table k _ _ (λ i j within column.
+    sum_below_same 17 (λ l. entry (after_affine (identity 16) at form) i l * cell k v l j) (λ l. (if i == at then slice_index form l else entry (identity 16) i l) * cell k v l j)
+    (λ l h. word-mul (entry (after_affine (identity 16) at form) i l) (if i == at then slice_index form l else entry (identity 16) i l) (cell k v l j) (cell k v l j)
+    (cell_word 17 _ i l within h ∙ affine_entry (i == at) i l form h) refl)
+    ∙ affine_word (i == at) i form (λ l. cell k v l j) within))
+
 pub after_affine-product : (m row : List ℕ) (at : ℕ) → after_affine m at row ≡ product (after_affine (identity 16) at row) m
-after_affine-product m row at =
-    sym (same_matrix _ _ (λ i j within column.
-    sum_below_same 17 (λ k. entry (after_affine (identity 16) at row) i k * entry m k j) (λ k. (if i == at then slice_index row k else entry (identity 16) i k) * entry m k j)
-    (λ k h. word-mul (entry (after_affine (identity 16) at row) i k) (if i == at then slice_index row k else entry (identity 16) i k) (entry m k j) (entry m k j)
-    (entry_word _ i k within h ∙ affine_entry (i == at) i k row h) refl)
-    ∙ affine_word (i == at) i j m row within))
+after_affine-product = assigned-moved 17

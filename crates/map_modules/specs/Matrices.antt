@@ -1,9 +1,14 @@
--- Matrices of 17 rows and 17 columns over words, which act on states from the left. The word at row i and column j
--- stands at position 17 * i + j of a row of 289 words. Sums and products are whole numbers, and a matrix wraps each once.
+-- Matrices of 17 rows over words: a row of 17 * k words is one of k columns, with the word at row i and column j at position
+-- k * i + j. A state has one column. A map of states has 17, and acts on each from the left. Sums and products are whole
+-- numbers, and a matrix wraps each once.
 --
---   entry m i j                           the word of m at row i and column j
+--   cell k v i j                          the word of v, of k columns, at row i and column j
+--   table k f                             the matrix of k columns with f i j, wrapped, at row i and column j
+--   moved k m v                           m times v, of k columns: what the map m makes of v
+--   assigned k v i form                   v with form times v as its row i: position i becomes form . state
+--   entry m i j                           the word of a map m at row i and column j
 --   sum_below n f                         f 0 + f 1 + .. + f (n - 1)
---   matrix f                              the matrix with f i j, wrapped, at row i and column j
+--   matrix f                              the map with f i j, wrapped, at row i and column j
 --   vector f                              the row of 17 words with f i, wrapped, at position i
 --   identity width                        1 at (i, i) for i below width and at (16, 16), else 0
 --   product after before                  the map before, and then the map after: rows of after times columns of before
@@ -25,30 +30,42 @@ use Rattle.word_rows.specs.Words.{word}
 use Rattle.word_rows.specs.Rows.{IsRow}
 use Rattle.row_modules.specs.Positions.{has}
 
+abbrev pub cell : ℕ → List ℕ → ℕ → ℕ → ℕ
+cell k v i j = slice_index v (k * i + j)
+
 abbrev pub entry : List ℕ → ℕ → ℕ → ℕ
-entry m i j = slice_index m (17 * i + j)
+entry m i j = cell 17 m i j
 
 unfoldable pub sum_below : ℕ → (ℕ → ℕ) → ℕ
 sum_below zero f = 0
 sum_below (suc n) f = sum_below n f + f n
 
-unfoldable pub matrix : (ℕ → ℕ → ℕ) → List ℕ
-matrix f = map (λ p. word (f (p / 17) (p % 17))) (range_with_len 0 289)
+unfoldable pub table : ℕ → (ℕ → ℕ → ℕ) → List ℕ
+table k f = map (λ p. word (f (p / k) (p % k))) (range_with_len 0 (17 * k))
 
-unfoldable pub vector : (ℕ → ℕ) → List ℕ
-vector f = map (λ i. word (f i)) (range_with_len 0 17)
+abbrev pub matrix : (ℕ → ℕ → ℕ) → List ℕ
+matrix f = table 17 f
+
+abbrev pub vector : (ℕ → ℕ) → List ℕ
+vector f = table 1 (λ i j. f i)
+
+abbrev pub moved : ℕ → List ℕ → List ℕ → List ℕ
+moved k m v = table k (λ i j. sum_below 17 (λ l. entry m i l * cell k v l j))
+
+abbrev pub assigned : ℕ → List ℕ → ℕ → List ℕ → List ℕ
+assigned k v i form = table k (λ r j. if r == i then sum_below 17 (λ l. slice_index form l * cell k v l j) else cell k v r j)
 
 abbrev pub identity : ℕ → List ℕ
 identity width = matrix (λ i j. if (i == j) && (nat_lt i width || (i == 16)) then 1 else 0)
 
 abbrev pub product : List ℕ → List ℕ → List ℕ
-product after before = matrix (λ i j. sum_below 17 (λ k. entry after i k * entry before k j))
+product after before = moved 17 after before
 
 abbrev pub apply : List ℕ → List ℕ → List ℕ
 apply m v = vector (λ i. sum_below 17 (λ k. entry m i k * slice_index v k))
 
 abbrev pub after_affine : List ℕ → ℕ → List ℕ → List ℕ
-after_affine m i row = matrix (λ k j. if k == i then sum_below 17 (λ l. slice_index row l * entry m l j) else entry m k j)
+after_affine m i row = assigned 17 m i row
 
 abbrev pub IsAffine : List ℕ → Type 0
 IsAffine m = (j : ℕ) → j < 17 → entry m 16 j ≡ (if j == 16 then 1 else 0)

@@ -1,50 +1,70 @@
-//! Sums of 17 products, and matrices and rows word by word.
+//! Sums of 17 products, and matrices word by word.
 
-ghost use Rattle.std.specs.Prelude.{◌≡◌, ℕ, ◌+◌, ◌*◌, ◌<◌, length, slice_index};
+ghost use Rattle.std.specs.Prelude.{◌≡◌, ℕ, ◌+◌, ◌*◌, ◌/◌, ◌<◌, length, slice_index, if◌then◌else◌, ◌==◌};
 ghost use Rattle.word_rows.specs.Words.{word};
-ghost use Rattle.map_modules.specs.Matrices.{entry, sum_below};
+ghost use Rattle.map_modules.specs.Matrices.{cell, entry, sum_below};
 
 use crate::Mat;
 use word_rows::Row;
 
-/// Row i of a matrix times column j of another.
-pub fn row_by_column(after: &Mat, i: usize, before: &Mat, j: usize) -> u64
+/// The word of a matrix at row i and column j.
+pub fn cell<const N: usize>(v: &Row<N>, i: usize, j: usize) -> u64
+    requires whole { N ≡ 17 * (N / 17) }
     requires row { i < 17 }
-    requires column { j < 17 }
-    ensures { result ≡ word (sum_below 17 (λ k. entry after.now i k * entry before.now k j)) }
+    requires column { j < N / 17 }
+    ensures { result ≡ cell (N / 17) v.now i j }
 {
-    let mut sum = 0u64;
-    for k in 0..17usize {
-        sum = sum.wrapping_add(after.get(17 * i + k).wrapping_mul(before.get(17 * k + j)));
-    }
-    sum
+    v.get(N / 17 * i + j)
 }
 
-/// Row i of a matrix times a row of words.
-pub fn row_by_vector(m: &Mat, i: usize, v: &Row<17>) -> u64
-    requires { i < 17 }
-    ensures { result ≡ word (sum_below 17 (λ k. entry m.now i k * slice_index v.now k)) }
+/// Row i of a map times column j of a matrix.
+pub fn row_by_column<const N: usize>(m: &Mat, i: usize, v: &Row<N>, j: usize) -> u64
+    requires whole { N ≡ 17 * (N / 17) }
+    requires row { i < 17 }
+    requires column { j < N / 17 }
+    ensures { result ≡ word (sum_below 17 (λ k. entry m.now i k * cell (N / 17) v.now k j)) }
 {
     let mut sum = 0u64;
     for k in 0..17usize {
-        sum = sum.wrapping_add(m.get(17 * i + k).wrapping_mul(v.get(k)));
+        sum = sum.wrapping_add(m.get(17 * i + k).wrapping_mul(cell(v, k, j)));
     }
     sum
 }
 
 /// A row of words times column j of a matrix.
-pub fn vector_by_column(row: &Row<17>, m: &Mat, j: usize) -> u64
-    requires { j < 17 }
-    ensures { result ≡ word (sum_below 17 (λ k. slice_index row.now k * entry m.now k j)) }
+pub fn form_by_column<const N: usize>(form: &Row<17>, v: &Row<N>, j: usize) -> u64
+    requires whole { N ≡ 17 * (N / 17) }
+    requires column { j < N / 17 }
+    ensures { result ≡ word (sum_below 17 (λ k. slice_index form.now k * cell (N / 17) v.now k j)) }
 {
     let mut sum = 0u64;
     for k in 0..17usize {
-        sum = sum.wrapping_add(row.get(k).wrapping_mul(m.get(17 * k + j)));
+        sum = sum.wrapping_add(form.get(k).wrapping_mul(cell(v, k, j)));
     }
     sum
 }
 
-/// The matrix with `word_at(i, j)` at row i and column j.
+/// The word of `assigned` at row k and column j.
+pub fn assigned_word<const N: usize>(
+    v: &Row<N>,
+    i: usize,
+    form: &Row<17>,
+    k: usize,
+    j: usize,
+) -> u64
+    requires whole { N ≡ 17 * (N / 17) }
+    requires row { k < 17 }
+    requires column { j < N / 17 }
+    ensures { result ≡ word (if k == i then sum_below 17 (λ l. slice_index form.now l * cell (N / 17) v.now l j) else cell (N / 17) v.now k j) }
+{
+    if k == i {
+        form_by_column(form, v, j)
+    } else {
+        cell(v, k, j)
+    }
+}
+
+/// The map with `word_at(i, j)` at row i and column j.
 pub fn matrix_from<F: Fn(usize, usize) -> u64>(word_at: F) -> Mat
     requires { (i j : ℕ) → i < 17 → j < 17 → F.pre word_at i j }
     ensures width { length result ≡ 289 }

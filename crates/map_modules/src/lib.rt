@@ -25,7 +25,7 @@ pub use laws::{
     products_associate,
 };
 use lead_basis::Basis;
-pub use matrices::{after_affine, apply, identity, product};
+pub use matrices::{after_affine, apply, identity, moved, product};
 use word_rows::Row;
 
 /// A matrix of 17 rows and 17 columns: the word at row i and column j is at position 17 * i + j.

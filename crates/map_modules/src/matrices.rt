@@ -1,10 +1,10 @@
 //! The identity, products, images, and the map after an affine assignment.
 
-ghost use Rattle.std.specs.Prelude.{◌≡◌, ◌<◌, ◌≤◌};
-ghost use Rattle.map_modules.specs.Matrices.{identity, product, apply, after_affine};
+ghost use Rattle.std.specs.Prelude.{◌≡◌, ◌*◌, ◌/◌, ◌<◌, ◌≤◌};
+ghost use Rattle.map_modules.specs.Matrices.{identity, moved, product, apply, assigned};
 
 use crate::Mat;
-use crate::kernels::{matrix_from, row_by_column, row_by_vector, vector_by_column};
+use crate::kernels::{assigned_word, matrix_from, row_by_column};
 use word_rows::Row;
 
 /// The map that keeps the positions below width and the constant, and clears the others.
@@ -21,34 +21,45 @@ pub fn identity(width: u32) -> Mat
     })
 }
 
+/// What a map makes of a row of whole columns: of a state, or of the map before it.
+pub fn moved<const N: usize>(m: &Mat, v: &Row<N>) -> Row<N>
+    requires { N ≡ 17 * (N / 17) }
+    ensures { result ≡ moved (N / 17) m.now v.now }
+{
+    v.known();
+    let columns = N / 17;
+    let mut words = [0u64; N];
+    for (at, word) in words.iter_mut().enumerate() {
+        *word = row_by_column(m, at / columns, v, at % columns);
+    }
+    Row::from_words(&words)
+}
+
 /// The map `before`, and then the map `after`.
 pub fn product(after: &Mat, before: &Mat) -> Mat
     ensures { result ≡ product after.now before.now }
 {
-    matrix_from(|i, j| row_by_column(after, i, before, j))
+    moved(after, before)
 }
 
 /// What a map makes of a row.
 pub fn apply(m: &Mat, v: &Row<17>) -> Row<17>
     ensures { result ≡ apply m.now v.now }
 {
-    let mut words = [0u64; 17];
-    for (i, word) in words.iter_mut().enumerate() {
-        *word = row_by_vector(m, i, v);
-    }
-    Row::from_words(&words)
+    moved(m, v)
 }
 
-/// The map m, and then position i becomes the sum of the row's products with the state.
-pub fn after_affine(m: &Mat, i: usize, row: &Row<17>) -> Mat
-    requires { i < 16 }
-    ensures { result ≡ after_affine m.now i row.now }
+/// A state, or a map, and then position i becomes the sum of the form's products with the state.
+pub fn after_affine<const N: usize>(v: &Row<N>, i: usize, form: &Row<17>) -> Row<N>
+    requires whole { N ≡ 17 * (N / 17) }
+    requires position { i < 16 }
+    ensures { result ≡ assigned (N / 17) v.now i form.now }
 {
-    matrix_from(|k, j| {
-        if k == i {
-            vector_by_column(row, m, j)
-        } else {
-            m.get(17 * k + j)
-        }
-    })
+    v.known();
+    let columns = N / 17;
+    let mut words = [0u64; N];
+    for (at, word) in words.iter_mut().enumerate() {
+        *word = assigned_word(v, i, form, at / columns, at % columns);
+    }
+    Row::from_words(&words)
 }

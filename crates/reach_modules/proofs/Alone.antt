@@ -1,10 +1,9 @@
 -- Words alone in a row.
-use Rattle.std.proofs.Common.{◌≡◌, ℕ, ◌+◌, ◌*◌, ◌<◌, List, set, get_or, slice_index, replicate, ap, sym, subst, ◌∙◌, arith}
+use Rattle.std.proofs.Common.{◌≡◌, ℕ, ◌<◌, List, set, get_or, slice_index, replicate, ap, sym, subst, ◌∙◌}
 use Rattle.std.proofs.lemmas.List.{get_or-set_same, get_or-set_other, set-get_or}
 use Rattle.word_rows.specs.Words.{word}
-use Rattle.word_rows.specs.Rows.{words_of, plus, IsRow}
-use Rattle.word_rows.proofs.Laws.{get_or-words_of, get_or-zeros, IsRow-zeros, IsRow-set, plus-set}
-use Rattle.row_modules.proofs.Laws.{plus_zeros}
+use Rattle.word_rows.specs.Rows.{IsRow}
+use Rattle.word_rows.proofs.Laws.{get_or-words_of, get_or-zeros, IsRow-zeros, IsRow-set}
 use Rattle.reach_modules.specs.Made.{alone}
 
 pub own_word : (v : List ℕ) (k : ℕ) → IsRow 17 v → word (slice_index v k) ≡ slice_index v k
@@ -21,10 +20,3 @@ alone_elsewhere k w i ne = get_or-set_other (replicate 17 0) k i w 0 ne ∙ get_
 
 pub zeros_alone : (k : ℕ) → alone k 0 ≡ replicate 17 0
 zeros_alone k = ap (set (replicate 17 0) k) (sym (get_or-zeros 17 k)) ∙ set-get_or (replicate 17 0) k 0
-
--- a word set to a multiple: the row with 0 there, and the multiple of the word alone
-pub set_multiple : (v : List ℕ) (k c x : ℕ) → IsRow 17 v → set v k (word (c * x)) ≡ words_of (plus c (set v k 0) (alone k x))
-set_multiple v k c x row =
-    let e : c * x ≡ 0 + c * x = omega arith in
-    ap (λ y. set v k (word y)) e ∙ ap (λ ys. set ys k (word (0 + c * x))) (sym (plus_zeros 17 c v row))
-    ∙ plus-set c k 0 x v (replicate 17 0) (row.width ∙ sym (IsRow-zeros 17).width)

@@ -8,8 +8,9 @@ use Rattle.affine_prog.specs.declared.Assign.{Assign}
 use Rattle.affine_prog.specs.Programs.{edge, entry_of, slots_of, owner_of, IsKindIn, IsWellFormed}
 use Rattle.reach_modules.specs.declared.Offer.{Offer}
 use Rattle.affine_prog.specs.Laws.{IsOpening}
-use Rattle.reach_modules.specs.Made.{Makes, Spans, MakesEach}
-use Rattle.reach_modules.specs.Moves.{IsMatrixOf, IsReturn}
+use Rattle.row_images.specs.States.{Makes, Spans, IsMatrixOf}
+use Rattle.reach_modules.specs.Made.{MakesEach}
+use Rattle.reach_modules.specs.Moves.{IsReturn}
 use Rattle.reach_modules.specs.Offers.{offer}
 use Rattle.reach_modules.specs.Worklists.{EdgeOffers}
 use Rattle.reach_modules.proofs.Spanning.{spans_after}

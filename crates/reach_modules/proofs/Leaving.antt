@@ -8,7 +8,7 @@ use Rattle.affine_prog.specs.declared.Edge.{Edge}
 use Rattle.affine_prog.specs.declared.Kind.TheVariants.{Do}
 use Rattle.affine_prog.specs.Programs.{edge}
 use Rattle.reach_modules.specs.declared.Offer.{Offer}
-use Rattle.reach_modules.specs.Made.{Makes}
+use Rattle.row_images.specs.States.{Makes}
 use Rattle.reach_modules.specs.Moves.{EdgeMap, Moves}
 use Rattle.reach_modules.specs.Offers.{offer, IsListed, IsOffer}
 use Rattle.reach_modules.specs.Tables.{edge_at, AreOut, AlongSome}

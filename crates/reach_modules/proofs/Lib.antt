@@ -1,11 +1,7 @@
 mod Membership
 mod Positions
 mod Spanning
-mod Assigning
 mod Alone
-mod Appending
-mod Imaging
-mod InOrder
 mod Slots
 mod Openings
 mod Returning
@@ -25,4 +21,3 @@ mod Placing
 mod Starting
 mod Bounding
 mod NoReturns
-pub mod Laws

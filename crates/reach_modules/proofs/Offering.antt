@@ -9,8 +9,9 @@ use Rattle.affine_prog.specs.declared.Assign.{Assign}
 use Rattle.affine_prog.specs.Programs.{edge, entry_of, slots_of, owner_of}
 use Rattle.reach_modules.specs.declared.Offer.{Offer}
 use Rattle.affine_prog.specs.Laws.{IsOpening}
-use Rattle.reach_modules.specs.Made.{Makes, After, Spans}
-use Rattle.reach_modules.specs.Moves.{IsMatrixOf, IsReturn, EdgeMap}
+use Rattle.row_images.specs.States.{Makes, Spans, IsMatrixOf}
+use Rattle.reach_modules.specs.Made.{After}
+use Rattle.reach_modules.specs.Moves.{IsReturn, EdgeMap}
 use Rattle.reach_modules.specs.Offers.{offer, IsListed, IsOffer}
 use Rattle.reach_modules.specs.Worklists.{EdgeOffers}
 use Rattle.reach_modules.proofs.Membership.{map_in, map_out}

@@ -10,11 +10,12 @@ use Rattle.map_modules.proofs.Lemmas.{IsRow-matrix, IsRow-vector, apply_is_bilin
 use Rattle.affine_prog.specs.LevelPaths.{opening_map}
 use Rattle.affine_prog.specs.Laws.{slot_words, IsOpening}
 use Rattle.affine_prog.proofs.Lemmas.{openings_span}
-use Rattle.reach_modules.specs.Made.{Makes, Spans, alone, opened_of}
+use Rattle.row_images.specs.States.{Makes, Spans}
+use Rattle.reach_modules.specs.Made.{alone, opened_of}
 use Rattle.reach_modules.specs.Tables.{ArePositions}
 use Rattle.reach_modules.proofs.Membership.{map_in, map_out}
 use Rattle.reach_modules.proofs.Alone.{zeros_alone}
-use Rattle.reach_modules.proofs.Imaging.{unless_zero}
+use Rattle.reach_modules.proofs.Spanning.{unless_zero}
 use Rattle.reach_modules.proofs.Slots.{one_slot, same_kept, not_in_both}
 
 -- the maps of openings and what they make of a row

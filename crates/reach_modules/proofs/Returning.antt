@@ -10,7 +10,8 @@ use Rattle.affine_prog.specs.declared.Program.{Program}
 use Rattle.affine_prog.specs.Programs.{exit_of, IsWellFormed}
 use Rattle.affine_prog.specs.Spans.{IsMapOf}
 use Rattle.affine_prog.proofs.Lemmas.{level_map}
-use Rattle.reach_modules.specs.Made.{Makes, Spans, returned_of}
+use Rattle.row_images.specs.States.{Makes, Spans}
+use Rattle.reach_modules.specs.Made.{returned_of}
 use Rattle.reach_modules.specs.Moves.{IsReturn}
 use Rattle.reach_modules.proofs.Membership.{map_in, map_out}
 use Rattle.reach_modules.proofs.Spanning.{made_are_rows}

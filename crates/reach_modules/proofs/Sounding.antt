@@ -9,7 +9,7 @@ use Rattle.affine_prog.specs.Programs.{IsWellFormed}
 use Rattle.affine_prog.specs.Spans.{rows_at, IsStateAt}
 use Rattle.affine_prog.proofs.Lemmas.{open_state}
 use Rattle.reach_modules.specs.declared.Offer.{Offer}
-use Rattle.reach_modules.specs.Made.{Makes}
+use Rattle.row_images.specs.States.{Makes}
 use Rattle.reach_modules.specs.Moves.{Moves}
 use Rattle.reach_modules.specs.Offers.{IsListed, Keeps}
 use Rattle.reach_modules.specs.Worklists.{IsSound, Pushes}

@@ -1,13 +1,15 @@
 -- What sets of matrices make of rows, and what spans it.
-use Rattle.std.proofs.Common.{ℕ, List, Contains, flat_map, refl, ap, sym, ◌∙◌}
-use Rattle.row_modules.specs.Modules.{AreRows, IsCombination, IsModule}
+use Rattle.std.proofs.Common.{◌≡◌, ℕ, inl, inr, List, [], ◌∷◌, Contains, flat_map, replicate, refl, ap, sym, subst, ◌∙◌, if◌then◌else◌, ◌==◌}
+use Rattle.std.proofs.lemmas.Bool.{cases_eq, eq-eqb, ne_eqb}
+use Rattle.row_modules.specs.Modules.{AreRows, IsCombination, IsModule, none}
 use Rattle.row_modules.specs.Maps.{IsLinear, Products}
-use Rattle.row_modules.proofs.Laws.{combinations, generator, mapped_into, module_least, spans_more, within_from_generators}
+use Rattle.row_modules.proofs.Laws.{combinations, contains_first, first_or_later, generator, mapped_into, module_least, nothing_contained, rows_with, spans_more, within_from_generators}
 use Rattle.map_modules.specs.Matrices.{product, apply}
 use Rattle.map_modules.proofs.Lemmas.{apply_second}
 use Rattle.map_modules.proofs.Lemmas.{IsRow-vector}
 use Rattle.map_modules.proofs.Lemmas.{apply-product}
-use Rattle.reach_modules.specs.Made.{Makes, After, Spans, MakesEach}
+use Rattle.row_images.specs.States.{Makes, Spans}
+use Rattle.reach_modules.specs.Made.{After, MakesEach}
 use Rattle.reach_modules.proofs.Membership.{flat_map_in, flat_map_out}
 
 apply_is_linear : (m : List ℕ) → IsLinear 17 17 (apply m)
@@ -29,6 +31,28 @@ spans_same rows P Q there back s = record {
   rows_are = s.rows_are;
   same = record { there = λ w h. spans_more 17 P Q there w (s.same.there w h); back = λ w h. s.same.back w (spans_more 17 Q P back w h) };
 }
+
+-- rows of zeros may be left out
+pub unless_zero : (x : ℕ) (row : List ℕ) (rest : List (List ℕ)) (P : List ℕ → Type 0) → (x ≡ 0 → (v : List ℕ) → Contains rest v → v ≡ replicate 17 0) → Spans (row ∷ rest) P → Spans (row ∷ (if x == 0 then [] else rest)) P
+unless_zero x row rest P zeros s = elim (cases_eq x 0) [
+  | inl e ↦ subst (λ b. Spans (row ∷ (if b then [] else rest)) P) (sym (eq-eqb x 0 e)) (less_zeros (zeros e))
+  | inr ne ↦ subst (λ b. Spans (row ∷ (if b then [] else rest)) P) (sym (ne_eqb x 0 ne)) s
+] where
+  less_zeros : ((v : List ℕ) → Contains rest v → v ≡ replicate 17 0) → Spans (row ∷ []) P
+  less_zeros none_else =
+      let first : AreRows 17 (Contains (row ∷ [])) = rows_with 17 row [] (s.rows_are row (contains_first row rest)) (λ w h. absurd (nothing_contained w h)) in
+      record {
+        rows_are = first;
+        same = record {
+          there = λ w h. s.same.there w (spans_more 17 (Contains (row ∷ [])) (Contains (row ∷ rest))
+              (λ v k. elim (first_or_later row [] v k) [ inl e ↦ rw e (contains_first row rest) | inr l ↦ absurd (nothing_contained v l) ]) w h);
+          back = λ w h. within_from_generators 17 (Contains (row ∷ rest)) (Contains (row ∷ [])) first
+              (λ v k. elim (first_or_later row rest v k) [
+                | inl e ↦ generator 17 (Contains (row ∷ [])) first v (rw e (contains_first row []))
+                | inr l ↦ none v (none_else v l)
+              ]) w (s.same.back w h);
+        };
+      }
 
 -- rows that span a set, and for each of them rows that span what M makes of it
 module _ (M P : List ℕ → Type 0) (set_rows : AreRows 17 P) (rows all : List (List ℕ)) (spans : Spans rows P) (each : MakesEach M rows all) where

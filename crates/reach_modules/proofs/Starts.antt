@@ -7,7 +7,8 @@ use Rattle.row_modules.proofs.Laws.{first_or_later, contains_first, contains_lat
 use Rattle.affine_prog.specs.declared.Program.{Program}
 use Rattle.affine_prog.specs.OpenPaths.{Start}
 use Rattle.affine_prog.proofs.Lemmas.{starts_span}
-use Rattle.reach_modules.specs.Made.{Spans, alone}
+use Rattle.row_images.specs.States.{Spans}
+use Rattle.reach_modules.specs.Made.{alone}
 use Rattle.reach_modules.specs.Tables.{ArePositions}
 use Rattle.reach_modules.proofs.Membership.{map_in, map_out}
 

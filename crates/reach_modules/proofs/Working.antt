@@ -8,7 +8,7 @@ use Rattle.affine_prog.specs.declared.Program.{Program}
 use Rattle.affine_prog.specs.Programs.{entry_of}
 use Rattle.affine_prog.specs.Spans.{rows_at}
 use Rattle.reach_modules.specs.declared.Offer.{Offer}
-use Rattle.reach_modules.specs.Made.{Makes}
+use Rattle.row_images.specs.States.{Makes}
 use Rattle.reach_modules.specs.Moves.{Moves}
 use Rattle.reach_modules.specs.Offers.{offer, IsListed, IsOffer, InModule, Keeps, Takes}
 use Rattle.reach_modules.specs.Worklists.{IsClosed, IsSound, IsWorking, Pushes}

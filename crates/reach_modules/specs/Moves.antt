@@ -1,7 +1,6 @@
 -- Moves: what one edge, with the call that it may have, makes of a state. The state of an open path moves from its node to
 -- another, and each open path is made of such moves.
 --
---   IsMatrixOf assigns m       m is the matrix of the assignments under some choice
 --   IsReturn program s q m     m is the map of a level path of procedure q to its exit, as a caller with the slots s sees it
 --   KindMap program u to kind v m   along an edge of this kind from u to `to`, m is the map of a move to node v
 --   EdgeMap program e v m      along the edge e, m is the map of a move to node v: of its assignments to its end, or of these
@@ -15,16 +14,12 @@ use Rattle.affine_prog.specs.declared.Program.{Program}
 use Rattle.affine_prog.specs.declared.Edge.{Edge}
 use Rattle.affine_prog.specs.declared.Kind.{Kind}
 use Rattle.affine_prog.specs.declared.Kind.TheVariants.{Do, Call}
-use Rattle.affine_prog.specs.declared.Assign.{Assign}
 use Rattle.affine_prog.specs.Programs.{entry_of, slots_of, owner_of}
-use Rattle.affine_prog.specs.Assignments.{Choice, matrix_of}
 use Rattle.affine_prog.specs.OpenPaths.{Start}
 use Rattle.affine_prog.specs.Laws.{IsOpening}
 use Rattle.affine_prog.specs.Spans.{IsMapOf}
+use Rattle.row_images.specs.States.{IsMatrixOf}
 use Rattle.reach_modules.specs.Made.{After}
-
-abbrev pub IsMatrixOf : List Assign → List ℕ → Type 0
-IsMatrixOf assigns m = (words : List ℕ) × Choice assigns words × (m ≡ matrix_of assigns words)
 
 abbrev pub IsReturn : Program → ℕ → ℕ → List ℕ → Type 0
 IsReturn program s q m = (callee : List ℕ) × IsMapOf program q callee × (m ≡ extension program.registers s callee)

@@ -5,7 +5,7 @@ use Rattle.std.specs.Prelude.{◌≡◌, ℕ, List, map}
 use Rattle.affine_prog.specs.declared.Program.{Program}
 use Rattle.affine_prog.specs.Programs.{entry_of}
 use Rattle.reach_modules.specs.declared.Offer.{Offer}
-use Rattle.reach_modules.specs.Made.{Spans}
+use Rattle.row_images.specs.States.{Spans}
 use Rattle.reach_modules.specs.Moves.{IsFirst}
 use Rattle.reach_modules.specs.Offers.{offer}
 

@@ -16,7 +16,7 @@ use Rattle.affine_prog.specs.declared.Edge.{Edge}
 use Rattle.affine_prog.specs.Programs.{entry_of}
 use Rattle.affine_prog.specs.Spans.{rows_at, IsStateAt}
 use Rattle.reach_modules.specs.declared.Offer.{Offer}
-use Rattle.reach_modules.specs.Made.{Makes}
+use Rattle.row_images.specs.States.{Makes}
 use Rattle.reach_modules.specs.Moves.{EdgeMap, Moves, IsFirst}
 use Rattle.reach_modules.specs.Tables.{AlongSome}
 use Rattle.reach_modules.specs.Offers.{IsListed, IsOffer, InModule}

@@ -13,11 +13,12 @@ ghost use Rattle.reach_modules.specs.Offers.{offer};
 ghost use Rattle.reach_modules.specs.Tables.{AreOut, ArePlaces};
 ghost use Rattle.reach_modules.specs.Worklists.{EdgeOffers, Pushes};
 
-use crate::made::{each_opened, each_returned, images, positions};
+use crate::made::{each_opened, each_returned, positions};
 use crate::{Offer, Tables};
 use affine_prog::{Edge, Kind, Program};
 use lead_basis::Memory;
 use map_modules::{Mat, MatBasis, extend_call, identity};
+use row_images::images;
 use sqlite_items::Items;
 use std::alloc::Global;
 use word_rows::Row;

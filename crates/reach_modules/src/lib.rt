@@ -25,7 +25,6 @@ ghost use Rattle.std.specs.Prelude.{◌≡◌, ◌<◌, length};
 ghost use Rattle.affine_prog.specs.Spans.{rows_at};
 
 use lead_basis::Basis;
-pub use made::images;
 use sqlite_items::Items;
 use std::marker::Model;
 use word_rows::Row;

@@ -1,13 +1,10 @@
-//! What assignments, openings and returns make of a row.
+//! What openings and returns make of a row.
 
 ghost use Rattle.std.specs.Prelude.{◌≡◌, ◌<◌, ◌↔◌, ◌++◌, ◌∷◌, [], All, flat_map, OnOk, IfOk, bit_and, if◌then◌else◌};
 ghost use Rattle.row_modules.specs.Positions.{has};
-ghost use Rattle.affine_prog.specs.Assignments.{position_of};
-ghost use Rattle.reach_modules.specs.Made.{Makes, Spans, images_of, opened, opened_of, returned_of};
-ghost use Rattle.reach_modules.specs.Moves.{IsMatrixOf};
+ghost use Rattle.reach_modules.specs.Made.{opened, opened_of, returned_of};
 ghost use Rattle.reach_modules.specs.Tables.{ArePositions};
 
-use affine_prog::Assign;
 use lead_basis::Memory;
 use map_modules::{Mat, apply, extend_call};
 use sqlite_items::Items;
@@ -22,51 +19,6 @@ fn add(rows: &mut Items<Row<17>>, row: Row<17>) -> Result<(), Memory>
         Ok(()) => Ok(()),
         Err(_) => Err(Memory),
     }
-}
-
-/// Adds what an assignment makes of a row.
-fn push_images(rows: &mut Items<Row<17>>, assign: &Assign, row: &Row<17>) -> Result<(), Memory>
-    requires { position_of assign.now < 16 }
-    ensures { OnOk result (rows.new ≡ rows.old ++ images_of assign.now row.now) }
-{
-    match assign {
-        Assign::Affine(i, form) => add(rows, row.with(usize::from(*i), form.dot(row))),
-        Assign::Any(i) => {
-            add(rows, row.with(usize::from(*i), 0))?;
-            let constant = row.get(16);
-            if constant == 0 {
-                return Ok(());
-            }
-            add(rows, Row::zero().with(usize::from(*i), constant))
-        }
-    }
-}
-
-/// What an assignment makes of each row.
-fn each_image(alloc: Global, assign: &Assign, rows: &[Row<17>]) -> Result<Items<Row<17>>, Memory>
-    requires { position_of assign.now < 16 }
-    ensures { IfOk result (λ images. images ≡ flat_map (images_of assign.now) rows.now) }
-{
-    let mut images = Items::new(alloc);
-    for row in rows {
-        push_images(&mut images, assign, row)?;
-    }
-    Ok(images)
-}
-
-/// Rows that span what assignments, one after the other, make of a row: one, and where it has a word at position 16 one more
-/// for each unknown assignment.
-pub fn images(alloc: Global, assigns: &[Assign], row: &Row<17>) -> Result<Items<Row<17>>, Memory>
-    requires { All (λ a. position_of a < 16) assigns.now }
-    ensures { IfOk result (λ rows. Spans rows (Makes (IsMatrixOf assigns.now) row.now)) }
-{
-    row.known();
-    let mut rows = Items::new(alloc);
-    add(&mut rows, *row)?;
-    for assign in assigns {
-        rows = each_image(alloc, assign, rows.as_slice())?;
-    }
-    Ok(rows)
 }
 
 /// Whether a set has this position.

@@ -1,8 +1,7 @@
 use Rattle.std.proofs.Common.{Contains, take}
 use Rattle.row_modules.specs.Maps.{Products}
 use Rattle.map_modules.specs.Matrices.{apply}
-use Rattle.reach_modules.specs.Made.{Spans}
-use Rattle.reach_modules.specs.Moves.{IsMatrixOf}
+use Rattle.row_images.specs.States.{Spans, IsMatrixOf}
 use Rattle.block_program.proofs.pushes.all_images.Given as goal
 
 abbrev pub invariant-loop-row : goal.invariant-loop-row

@@ -3,8 +3,7 @@ use Rattle.std.proofs.lemmas.Result.{IfOk-weaker}
 use Rattle.row_modules.specs.Maps.{Products}
 use Rattle.lead_basis.proofs.Laws.{basis_rows}
 use Rattle.map_modules.specs.Matrices.{apply}
-use Rattle.reach_modules.specs.Made.{Spans}
-use Rattle.reach_modules.specs.Moves.{IsMatrixOf}
+use Rattle.row_images.specs.States.{Spans, IsMatrixOf}
 use Rattle.block_program.specs.Built.{IsBuilt}
 use Rattle.block_program.specs.EdgesInto.{assigns_of}
 use Rattle.block_program.proofs.Imaged.{pushed_exactly, pushed_counts}

@@ -4,8 +4,8 @@ use Rattle.map_modules.proofs.Sums.{sum_below_none, sum_more}
 use Rattle.map_modules.proofs.kernels.row_by_column.Goals as goal
 
 pub loop-k-init : goal.loop-k-init
-loop-k-init c = ap word (sym (sum_below_none _))
+loop-k-init g c = ap word (sym (sum_below_none _))
 
 pub loop-k-preserved : goal.loop-k-preserved
-loop-k-preserved c =
-    sum_more c.loop-k.k c.loop-k.sum _ _ _ c.loop-k.invariant (let e = c.get.ensures in let h = c.get-in-loop-k.ensures in cc)
+loop-k-preserved g c =
+    sum_more c.loop-k.k c.loop-k.sum _ _ _ c.loop-k.invariant (let e = c.get.ensures in let h = c.cell.ensures in cc)

@@ -1,7 +1,0 @@
-use Rattle.std.proofs.Common.{◌≡◌, ◌*◌, slice_index}
-use Rattle.word_rows.specs.Words.{word}
-use Rattle.map_modules.specs.Matrices.{entry, sum_below}
-use Rattle.map_modules.proofs.kernels.vector_by_column.Given as goal
-
-abbrev pub invariant-loop-k : goal.invariant-loop-k
-invariant-loop-k l = l.sum ≡ word (sum_below l.k (λ k. slice_index l.row k * entry l.m k l.j))
