@@ -14,7 +14,7 @@ use Rattle.flow_points.proofs.PointLaws.{all_procedures}
 use Rattle.report_text.specs.Certificates.{procedures_of}
 use Rattle.report_text.specs.declared.points.PointRows.{PointRows}
 use Rattle.report_text.specs.declared.reports.Report.{Report}
-use Rattle.run_watch.specs.Strangers.{FirstIs, IsStrangePoint, first_some}
+use Rattle.report_places.specs.Strangers.{FirstIs, IsStrangePoint, first_some}
 use Rattle.analyser_core.specs.Upgrades.{IsKnown, IsUpgradeOf, IsUpgradeRefusal}
 use Rattle.analyser_core.specs.declared.upgrades.UpgradeRefusal.{UpgradeRefusal}
 use Rattle.analyser_core.specs.declared.upgrades.UpgradeRefusal.TheVariants.{Memory}

@@ -11,7 +11,7 @@ use Rattle.affine_prog.specs.declared.Program.{Program}
 use Rattle.affine_lift.specs.Lifting.{IsLifted}
 use Rattle.report_text.specs.Certificates.{procedures_of}
 use Rattle.report_text.specs.declared.reports.Report.{Report}
-use Rattle.run_watch.specs.Strangers.{IsStranger}
+use Rattle.report_places.specs.Strangers.{IsStranger}
 use Rattle.analyser_core.specs.Certified.{AreCertificatesAt, told_in, told_of}
 use Rattle.analyser_core.specs.Heads.{HasFewHeads, HasManyHeads, most_heads}
 use Rattle.analyser_core.specs.declared.cert_line.CertLine.{CertLine}

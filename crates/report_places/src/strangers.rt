@@ -1,7 +1,7 @@
 //! What a report tells of that the file doesn't have.
 
 ghost use Rattle.std.specs.Prelude.{◌≡◌, ◌↔◌, IsTrue};
-ghost use Rattle.run_watch.specs.Strangers.{FirstIs, IsStrangeName, IsStrangePoint, IsStranger, procedure_of, first_some};
+ghost use Rattle.report_places.specs.Strangers.{FirstIs, IsStrangeName, IsStrangePoint, IsStranger, procedure_of, first_some};
 
 use flow_points::Points;
 use report_text::{Name, PointRows, Report};

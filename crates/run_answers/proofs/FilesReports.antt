@@ -4,7 +4,7 @@ use Rattle.std.specs.List.{AllByRecursion}
 use Rattle.std.proofs.lemmas.List.Elements.{recursion_from_All}
 use Rattle.report_text.specs.declared.names.Name.{Name}
 use Rattle.report_text.specs.declared.names.Name.TheVariants.{Register, Slot}
-use Rattle.run_watch.specs.Strangers.{FirstIs, IsStrangeName, IsStrangePoint, first_some, procedure_of}
+use Rattle.report_places.specs.Strangers.{FirstIs, IsStrangeName, IsStrangePoint, first_some, procedure_of}
 use Rattle.run_answers.specs.Laws.{FilesReportsAreKnown, IsNameOf, IsPointOf}
 
 -- none is the first where each is another

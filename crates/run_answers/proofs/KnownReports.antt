@@ -2,7 +2,7 @@
 use Rattle.std.proofs.Common.{◌≡◌, ◌↔◌, ℕ, Result, Ok, Err, Some}
 use Rattle.flow_points.specs.PointLists.{FlowPoints}
 use Rattle.report_text.specs.declared.reports.Report.{Report}
-use Rattle.run_watch.specs.Strangers.{IsStranger}
+use Rattle.report_places.specs.Strangers.{IsStranger}
 use Rattle.run_watch.specs.declared.verdicts.RunRefusal.{RunRefusal}
 use Rattle.run_watch.specs.declared.verdicts.RunRefusal.TheVariants.{NotAPoint}
 use Rattle.run_watch.specs.declared.verdicts.RunVerdict.{RunVerdict}

@@ -5,7 +5,7 @@ use Rattle.report_read.specs.declared.refusal.ReportRefusal.{ReportRefusal}
 use Rattle.report_read.specs.declared.refusal.ReportRefusal.TheVariants.{Syntax, UnknownName, Order, NotReduced, Memory}
 use Rattle.report_read.specs.Written.{IsReadAs}
 use Rattle.report_read.proofs.ReportRead.{text_read}
-use Rattle.run_watch.specs.Strangers.{IsStranger}
+use Rattle.report_places.specs.Strangers.{IsStranger}
 use Rattle.verdict_text.specs.Text.{has_found}
 use Rattle.run_answers.specs.Answers.{IsChecked, checked, refused, strange}
 use Rattle.run_answers.specs.Laws.{CheckedRunsHaveVerdicts, IsVerdictStatus, KnownReportsAreChecked}

@@ -20,7 +20,7 @@ use Rattle.report_read.specs.Telling.{IsTold}
 use Rattle.report_read.specs.declared.refusal.ReportRefusal.{ReportRefusal}
 use Rattle.report_read.specs.declared.refusal.ReportRefusal.TheVariants.{Memory}
 use Rattle.run_watch.specs.Runs.{Sight, IsRunOf, verdict}
-use Rattle.run_watch.specs.Strangers.{IsStranger}
+use Rattle.report_places.specs.Strangers.{IsStranger}
 use Rattle.run_watch.specs.declared.context.Found.{Found}
 use Rattle.run_watch.specs.declared.verdicts.RunVerdict.{RunVerdict}
 use Rattle.verdict_text.specs.Text.{has_found, verdict_text}

@@ -4,7 +4,7 @@ mod Keeping
 mod Seeing
 mod Placing
 mod Gathering
-mod FirstOnes
+mod Refused
 mod PointsTold
 mod Marking
 mod Unmarked

@@ -4,5 +4,4 @@ pub mod Marks
 pub mod Moments
 pub mod Judges
 pub mod Runs
-pub mod Strangers
 pub mod Turns

@@ -1,9 +1,9 @@
 use Rattle.std.proofs.Common.{Some, drop, subst, sym, ◌∙◌}
 use Rattle.std.proofs.lemmas.Bool.{false≢true}
 use Rattle.report_text.specs.declared.names.Name.TheVariants.{Register}
-use Rattle.run_watch.specs.Strangers.{FirstIs, IsStrangeName, procedure_of}
-use Rattle.run_watch.proofs.FirstOnes.{first_here, first_later, first_at_end}
-use Rattle.run_watch.proofs.strangers.strange_name.Goals as goal
+use Rattle.report_places.specs.Strangers.{FirstIs, IsStrangeName, procedure_of}
+use Rattle.report_places.proofs.FirstOnes.{first_here, first_later, first_at_end}
+use Rattle.report_places.proofs.strangers.strange_name.Goals as goal
 
 pub returns-then-is_strange_name : goal.returns-then-is_strange_name
 returns-then-is_strange_name c =

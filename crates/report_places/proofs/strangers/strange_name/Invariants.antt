@@ -1,6 +1,6 @@
 use Rattle.std.proofs.Common.{ℕ, Option, drop}
-use Rattle.run_watch.specs.Strangers.{FirstIs, IsStrangeName, procedure_of}
-use Rattle.run_watch.proofs.strangers.strange_name.Given as goal
+use Rattle.report_places.specs.Strangers.{FirstIs, IsStrangeName, procedure_of}
+use Rattle.report_places.proofs.strangers.strange_name.Given as goal
 
 abbrev pub invariant-loop-name : goal.invariant-loop-name
 invariant-loop-name l = (found : Option ℕ)

@@ -1,8 +1,8 @@
 use Rattle.std.proofs.Common.{sym, ◌∙◌, subst}
 use Rattle.std.proofs.lemmas.Bool.{false≢true}
-use Rattle.run_watch.specs.Strangers.{IsStrangePoint}
-use Rattle.run_watch.proofs.FirstOnes.{first_later}
-use Rattle.run_watch.proofs.strangers.strange_point.Goals as goal
+use Rattle.report_places.specs.Strangers.{IsStrangePoint}
+use Rattle.report_places.proofs.FirstOnes.{first_later}
+use Rattle.report_places.proofs.strangers.strange_point.Goals as goal
 
 pub loop-point-preserved : goal.loop-point-preserved
 loop-point-preserved c = λ found later.

@@ -1,6 +1,6 @@
 use Rattle.std.proofs.Common.{ℕ, Option, drop}
-use Rattle.run_watch.specs.Strangers.{FirstIs, IsStrangePoint}
-use Rattle.run_watch.proofs.strangers.strange_point.Given as goal
+use Rattle.report_places.specs.Strangers.{FirstIs, IsStrangePoint}
+use Rattle.report_places.proofs.strangers.strange_point.Given as goal
 
 abbrev pub invariant-loop-point : goal.invariant-loop-point
 invariant-loop-point l = (found : Option ℕ)

@@ -1,7 +1,7 @@
 use Rattle.std.proofs.Common.{List, subst}
 use Rattle.report_text.specs.declared.points.PointRows.{PointRows}
-use Rattle.run_watch.specs.Strangers.{FirstIs, IsStrangeName, IsStrangePoint, procedure_of}
-use Rattle.run_watch.proofs.strangers.stranger.Goals as goal
+use Rattle.report_places.specs.Strangers.{FirstIs, IsStrangeName, IsStrangePoint, procedure_of}
+use Rattle.report_places.proofs.strangers.stranger.Goals as goal
 
 pub returns : goal.returns
 returns c = record {

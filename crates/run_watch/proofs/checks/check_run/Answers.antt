@@ -1,6 +1,6 @@
 use Rattle.std.proofs.Common.{Ok, Err, refl}
 use Rattle.run_watch.specs.declared.verdicts.RunRefusal.TheVariants.{Memory}
-use Rattle.run_watch.proofs.FirstOnes.{refused_by, not_refused}
+use Rattle.run_watch.proofs.Refused.{refused_by, not_refused}
 use Rattle.run_watch.proofs.checks.check_run.Goals as goal
 
 pub returns-in-Some-clause-refused : goal.returns-in-Some-clause-refused

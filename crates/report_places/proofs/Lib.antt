@@ -1,0 +1,2 @@
+mod FirstOnes
+pub mod Laws
