@@ -7,7 +7,7 @@
 //!
 //! ```text
 //! match file_bytes(alloc, files, "program.elf") {
-//!     Ok(bytes) => say_reply(out, reply(answer_over(alloc, &bytes))),
+//!     Ok(bytes) => say_reply(out, reply_of(answer_over(alloc, &bytes))),
 //!     Err(reply) => say_reply(out, reply),
 //! }
 //! ```
@@ -17,7 +17,7 @@ mod reading;
 mod saying;
 
 pub use reading::{file_bytes, report_bytes};
-pub use saying::{reply, say, say_reply};
+pub use saying::{reply_of, say, say_reply};
 
 /// What an order gets: a status with a text, or word of a fault or of want of memory.
 #[derive(Debug, Drop)]

@@ -6,7 +6,7 @@ ghost use Rattle.refusal_lines.specs.Lines.{most_report_bytes, too_long_line, re
 ghost use Rattle.call_ends.specs.Replies.{AnswersWith, IsLong, IsWhole};
 
 use crate::Reply;
-use crate::saying::reply;
+use crate::saying::reply_of;
 use outside::{Files, ReadError, read_all};
 use std::alloc::{AllocError, Global};
 
@@ -62,7 +62,7 @@ fn bytes_of<F: Files>(
 {
     match read_all(alloc, files, name, most) {
         Ok(bytes) => Ok(bytes),
-        Err(ReadError::TooLong(_)) => Err(reply(answer_of(alloc, status, line))),
+        Err(ReadError::TooLong(_)) => Err(reply_of(answer_of(alloc, status, line))),
         Err(ReadError::Failed) => Err(Reply::ReadFault),
         Err(ReadError::Memory) => Err(Reply::OutOfMemory),
     }

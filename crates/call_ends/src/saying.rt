@@ -14,7 +14,7 @@ const READ_FAULT: &[u8] = b"read fault\n";
 const OUT_OF_MEMORY: &[u8] = b"out of memory\n";
 
 /// An answer as a reply.
-pub fn reply(answer: Result<(u8, Vec<u8>), AllocError>) -> Reply
+pub fn reply_of(answer: Result<(u8, Vec<u8>), AllocError>) -> Reply
     ensures { IsReplyOf answer result }
 {
     match answer {

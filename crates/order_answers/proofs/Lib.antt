@@ -1,5 +1,5 @@
 mod PointsListed
-mod Refused
+mod LinesTold
 mod RowsTold
 mod OutOfRange
 mod OffsetsFound

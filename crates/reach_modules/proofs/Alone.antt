@@ -1,5 +1,5 @@
 -- Words alone in a row.
-use Rattle.std.proofs.Common.{◌≡◌, ℕ, ◌<◌, List, set, get_or, slice_index, replicate, ap, sym, subst, ◌∙◌, arith}
+use Rattle.std.proofs.Common.{◌≡◌, ℕ, ◌<◌, List, set, get_or, slice_index, replicate, ap, sym, subst, ◌∙◌}
 use Rattle.std.proofs.lemmas.List.{get_or-set_same, get_or-set_other, set-get_or}
 use Rattle.word_rows.specs.Words.{word}
 use Rattle.word_rows.specs.Rows.{IsRow}

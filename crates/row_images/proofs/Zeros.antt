@@ -10,9 +10,8 @@ use Rattle.affine_prog.specs.declared.Assign.{Assign}
 use Rattle.affine_prog.specs.declared.Assign.TheVariants.{Affine, Any}
 use Rattle.affine_prog.specs.Assignments.{constant, matrix_of, made}
 use Rattle.affine_prog.proofs.Lemmas.{made-cons}
-use Rattle.row_images.specs.Images.{column, unknown_rows}
 
-pub zero_constant : replicate 17 0 ≡ constant 0
+zero_constant : replicate 17 0 ≡ constant 0
 zero_constant =
     vector_from_index (replicate 17 0) (λ k. if k == 16 then 0 else 0) (length-replicate {A = ℕ} 17 0)
     (λ i below. get_or-zeros 17 i ∙ elim (i == 16) as (λ b. 0 ≡ word (if b then 0 else 0)) [ true ↦ refl | false ↦ refl ])
@@ -28,7 +27,7 @@ pub made_all : (k : ℕ) (assigns : List Assign) (start new : List ℕ) (i : ℕ
 made_all k assigns start new i end m = sym (moved-identity k new m.row) ∙ ap (λ l. made k l [] new) (sym (drop_all i assigns end)) ∙ m.is
 
 module _ (assigns : List Assign) (i : ℕ) (a : Assign) (below : i < length assigns) (here : a ≡ get_or assigns i a) where
-  pub split : drop i assigns ≡ a ∷ drop (i + 1) assigns
+  split : drop i assigns ≡ a ∷ drop (i + 1) assigns
   split =
       let e : suc i ≡ i + 1 = omega arith in
       drop-cons assigns i a below ∙ ap₂ (λ (x : Assign) (n : ℕ). x ∷ drop n assigns) (sym here) e
@@ -51,10 +50,3 @@ module _ (assigns : List Assign) (i : ℕ) (a : Assign) (below : i < length assi
               ∙ sym (made-cons k old (constant 0) (matrix_of (drop (i + 1) assigns) []) j)
               ∙ ap (λ l. made k l [] old) (sym s) ∙ m.is;
         }
-
-  -- the unknown rows of what is left
-  pub unknown_affine : (k j c : ℕ) (form : List ℕ) → a ≡ Affine j form → unknown_rows k (drop i assigns) c ≡ unknown_rows k (drop (i + 1) assigns) c
-  unknown_affine k j c form is = ap (λ l. unknown_rows k l c) (split ∙ ap (λ (x : Assign). x ∷ drop (i + 1) assigns) is)
-
-  pub unknown_any : (k j c : ℕ) → a ≡ Any j → unknown_rows k (drop i assigns) c ≡ made k (drop (i + 1) assigns) [] (column k j c) ∷ unknown_rows k (drop (i + 1) assigns) c
-  unknown_any k j c is = ap (λ l. unknown_rows k l c) (split ∙ ap (λ (x : Assign). x ∷ drop (i + 1) assigns) is)

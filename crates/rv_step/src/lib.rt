@@ -32,6 +32,3 @@ pub use records::{StepRec, Stop, StoreRec};
 /// Out of memory.
 #[derive(Clone, Copy, Debug, PartialEq, Eq)]
 pub struct Memory;
-
-#[cfg(test)]
-mod tests;

@@ -6,7 +6,6 @@ use crate::system::{fails_as, reads_as};
 use outside::{ReadError, WriteError, read_all, write_all};
 use outside_fakes::{CleanFiles, CleanSink, MemFile, MemFiles, MemSink};
 use std::alloc::{AllocError, Global};
-use std::test::Fail;
 
 /// Over files that never fail, no read does.
 fn read_cleanly(alloc: Global, files: &mut CleanFiles, name: &str) -> Result<Vec<u8>, ReadError>
@@ -32,28 +31,38 @@ fn file(alloc: Global, name: &str, contents: &[u8]) -> Result<MemFile, AllocErro
     })
 }
 
-/// Three files, of which the last has the name of the second.
+/// Files, of which the last has the name of the second.
+const FILES: [(&str, &[u8]); 3] = [("empty", b""), ("row", ROW), ("row", b"hidden")];
+
 fn files(alloc: Global) -> Result<Vec<MemFile>, AllocError> {
     let mut files = Vec::new(alloc);
-    files.push(file(alloc, "empty", b"")?)?;
-    files.push(file(alloc, "row", ROW)?)?;
-    files.push(file(alloc, "row", b"hidden")?)?;
+    for (name, contents) in FILES.iter() {
+        files.push(file(alloc, name, contents)?)?;
+    }
     Ok(files)
+}
+
+fn fails_of(alloc: Global, fail: u64) -> Result<Vec<u64>, AllocError> {
+    let mut fails = Vec::new(alloc);
+    fails.push(fail)?;
+    Ok(fails)
 }
 
 /// These files, which give so many bytes a call, and the call that fails.
 fn files_in_pieces(alloc: Global, piece: usize, fail: u64) -> Result<MemFiles, AllocError>
     requires { 1 ≤ piece }
 {
-    let files = files(alloc)?;
-    let fails = vec![in alloc; fail]?;
-    Ok(MemFiles {
-        files,
-        piece,
-        fails,
-        calls: 0,
-        faults: 0,
-    })
+    let fails = fails_of(alloc, fail)?;
+    match files(alloc) {
+        Ok(files) => Ok(MemFiles {
+            files,
+            piece,
+            fails,
+            calls: 0,
+            faults: 0,
+        }),
+        Err(error) => Err(error),
+    }
 }
 
 /// The bytes of a call, the call that fails, a name, the limit, and the contents that are read.
@@ -65,14 +74,21 @@ const READ: [(usize, u64, &str, u64, &[u8]); 5] = [
     (64, 3, "row", 12, ROW),
 ];
 
-fn all_are_read(alloc: Global) -> Result<bool, Fail> {
-    for (piece, fail, name, limit, contents) in READ.iter() {
-        let mut files = files_in_pieces(alloc, (*piece).max(1), *fail)?;
-        if !reads_as(alloc, &mut files, name, *limit, contents) || files.faults != 0 {
-            return Ok(false);
+fn is_read(alloc: Global, case: &(usize, u64, &str, u64, &[u8])) -> bool {
+    let (piece, fail, name, limit, contents) = *case;
+    match files_in_pieces(alloc, piece.max(1), fail) {
+        Ok(mut files) => reads_as(alloc, &mut files, name, limit, contents) && files.faults == 0,
+        Err(_) => false,
+    }
+}
+
+fn all_are_read(alloc: Global) -> bool {
+    for case in READ.iter() {
+        if !is_read(alloc, case) {
+            return false;
         }
     }
-    Ok(true)
+    true
 }
 
 /// The same with the cause where a file isn't read, and the faults that are counted at no file.
@@ -84,21 +100,27 @@ const UNREAD: [(usize, u64, &str, u64, ReadError, u64); 5] = [
     (64, 0, "absent", 100, ReadError::Failed, 1),
 ];
 
-fn none_is_read(alloc: Global) -> Result<bool, Fail> {
-    for (piece, fail, name, limit, error, faults) in UNREAD.iter() {
-        let mut files = files_in_pieces(alloc, (*piece).max(1), *fail)?;
-        if !fails_as(alloc, &mut files, name, *limit, *error) || files.faults != *faults {
-            return Ok(false);
+fn is_unread(alloc: Global, case: &(usize, u64, &str, u64, ReadError, u64)) -> bool {
+    let (piece, fail, name, limit, error, faults) = *case;
+    match files_in_pieces(alloc, piece.max(1), fail) {
+        Ok(mut files) => fails_as(alloc, &mut files, name, limit, error) && files.faults == faults,
+        Err(_) => false,
+    }
+}
+
+fn none_is_read(alloc: Global) -> bool {
+    for case in UNREAD.iter() {
+        if !is_unread(alloc, case) {
+            return false;
         }
     }
-    Ok(true)
+    true
 }
 
 #[test]
-fn reads_from_memory(rt: HostRuntime) -> Result<(), Fail> {
-    assert!(rt; all_are_read(rt.alloc())?);
-    assert!(rt; none_is_read(rt.alloc())?);
-    Ok(())
+fn reads_from_memory(rt: HostRuntime) {
+    assert!(rt; all_are_read(rt.alloc()));
+    assert!(rt; none_is_read(rt.alloc()));
 }
 
 const TEXT: &[u8] = b"The relations that hold at each point are printed in order.\n";
@@ -113,12 +135,12 @@ const WRITTEN: [(usize, usize, u64, usize); 6] = [
     (25, 10, 0, 25),
 ];
 
-fn sink_of(alloc: Global, room: usize, piece: usize, fail: u64) -> Result<MemSink, Fail>
+fn sink_of(alloc: Global, room: usize, piece: usize, fail: u64) -> Option<MemSink>
     requires { 1 ≤ piece }
 {
-    match MemSink::with_capacity(alloc, room, piece, vec![in alloc; fail]?) {
-        Ok(sink) => Ok(sink),
-        Err(_) => Err(Fail::new("memory")),
+    match fails_of(alloc, fail) {
+        Ok(fails) => MemSink::with_capacity(alloc, room, piece, fails).ok(),
+        Err(_) => None,
     }
 }
 
@@ -131,21 +153,27 @@ fn takes(sink: &mut MemSink, length: usize) -> bool {
         && Some(sink.written.as_slice()) == TEXT.get(..length)
 }
 
-fn all_are_written(alloc: Global) -> Result<bool, Fail> {
-    for (room, piece, fail, length) in WRITTEN.iter() {
-        let mut sink = sink_of(alloc, *room, (*piece).max(1), *fail)?;
-        if !takes(&mut sink, *length) {
-            return Ok(false);
+fn is_written(alloc: Global, case: &(usize, usize, u64, usize)) -> bool {
+    let (room, piece, fail, length) = *case;
+    match sink_of(alloc, room, piece.max(1), fail) {
+        Some(mut sink) => takes(&mut sink, length),
+        None => false,
+    }
+}
+
+fn all_are_written(alloc: Global) -> bool {
+    for case in WRITTEN.iter() {
+        if !is_written(alloc, case) {
+            return false;
         }
     }
-    Ok(true)
+    true
 }
 
 #[test]
-fn writes_to_memory(rt: HostRuntime) -> Result<(), Fail> {
+fn writes_to_memory(rt: HostRuntime) {
     assert!(rt; TEXT.len() == 60);
-    assert!(rt; all_are_written(rt.alloc())?);
-    Ok(())
+    assert!(rt; all_are_written(rt.alloc()));
 }
 
 fn reads_cleanly(alloc: Global, files: &mut CleanFiles, name: &str, contents: &[u8]) -> bool {
@@ -165,14 +193,19 @@ fn counts_to_the_top() -> bool {
         && sink.taken == u64::MAX
 }
 
+fn reads_every_name(alloc: Global) -> bool {
+    match files(alloc) {
+        Ok(files) => {
+            let mut clean = CleanFiles { files };
+            reads_cleanly(alloc, &mut clean, "row", ROW)
+                && reads_cleanly(alloc, &mut clean, "absent", b"")
+        }
+        Err(_) => false,
+    }
+}
+
 #[test]
-fn never_fails(rt: HostRuntime) -> Result<(), Fail> {
-    let alloc = rt.alloc();
-    let mut files = CleanFiles {
-        files: files(alloc)?,
-    };
-    assert!(rt; reads_cleanly(alloc, &mut files, "row", ROW));
-    assert!(rt; reads_cleanly(alloc, &mut files, "absent", b""));
+fn never_fails(rt: HostRuntime) {
+    assert!(rt; reads_every_name(rt.alloc()));
     assert!(rt; counts_to_the_top());
-    Ok(())
 }

@@ -1,12 +1,10 @@
 //! A small file that is cut off or changed in one place, its image, and its symbols.
 
-use elf_image::{ElfRefusal, Image, Segment, fetch_length, read_image};
+use elf_image::{ElfRefusal, Image, Segment, Symbol, fetch_length, read_image};
 use elf_write::{
     FileHeader, SegmentHeader, push_file_header, push_number, push_program_header, push_words,
 };
 use std::alloc::{AllocError, Global};
-use std::process::Abort;
-use std::test::Fail;
 
 /// One segment at 0x10000 with the whole file, and the code `addi a0,zero,5; ebreak` at 0x10078. A line is
 /// e_ident; e_type to e_entry; e_phoff, e_shoff; e_flags to e_shstrndx; p_type to p_vaddr; p_paddr, p_filesz;
@@ -136,13 +134,20 @@ const CHANGES: [(usize, &[u8], ElfRefusal); 18] = [
     (104, &[127], ElfRefusal::BadSegment { offset: 64 }),
 ];
 
-fn changed_files_are_refused(alloc: Global) -> Result<bool, Fail> {
+fn change_is_refused(alloc: Global, at: usize, change: &[u8], refusal: ElfRefusal) -> bool {
+    match changed(alloc, at, change) {
+        Ok(file) => is_refused(alloc, &file, refusal),
+        Err(_) => false,
+    }
+}
+
+fn changes_are_refused(alloc: Global) -> bool {
     for (at, change, refusal) in CHANGES.iter() {
-        if !is_refused(alloc, &changed(alloc, *at, change)?, *refusal) {
-            return Ok(false);
+        if !change_is_refused(alloc, *at, change, *refusal) {
+            return false;
         }
     }
-    Ok(true)
+    true
 }
 
 /// The small file with its program header so many times.
@@ -171,22 +176,35 @@ const REPEATED: [(u16, ElfRefusal); 3] = [
     (65, MANY),
 ];
 
-fn repeated_files_are_refused(alloc: Global) -> Result<bool, Fail> {
+fn repeated_is_refused(alloc: Global, segments: u16, refusal: ElfRefusal) -> bool {
+    match repeated(alloc, segments) {
+        Ok(file) => is_refused(alloc, &file, refusal),
+        Err(_) => false,
+    }
+}
+
+fn repeated_are_refused(alloc: Global) -> bool {
     for (segments, refusal) in REPEATED.iter() {
-        if !is_refused(alloc, &repeated(alloc, *segments)?, *refusal) {
-            return Ok(false);
+        if !repeated_is_refused(alloc, *segments, *refusal) {
+            return false;
         }
     }
-    Ok(read_image(alloc, &repeated(alloc, 1)?).is_ok())
+    true
+}
+
+fn one_is_accepted(alloc: Global) -> bool {
+    match repeated(alloc, 1) {
+        Ok(file) => read_image(alloc, &file).is_ok(),
+        Err(_) => false,
+    }
 }
 
 #[test]
-fn the_first_condition_that_holds_is_answered(rt: HostRuntime) -> Result<(), Fail> {
+fn the_first_condition_that_holds_is_answered(rt: HostRuntime) {
     let alloc = rt.alloc();
     assert!(rt; cut_files_are_refused(alloc));
-    assert!(rt; changed_files_are_refused(alloc)?);
-    assert!(rt; repeated_files_are_refused(alloc)?);
-    Ok(())
+    assert!(rt; changes_are_refused(alloc));
+    assert!(rt; repeated_are_refused(alloc) && one_is_accepted(alloc));
 }
 
 const SEGMENT: Segment = Segment {
@@ -265,13 +283,36 @@ const FETCHES: [(u64, Option<(u32, u8)>); 3] = [
     (0x10088, None),
 ];
 
-#[test]
-fn bytes_are_loaded_and_the_rest_is_zero(rt: HostRuntime) -> Result<(), Fail> {
+fn image_of(alloc: Global, file: &[u8]) -> Option<Image> {
+    match read_image(alloc, file) {
+        Ok(image) => Some(image),
+        Err(_) => None,
+    }
+}
+
+fn image_with(alloc: Global, at: usize, change: &[u8]) -> Option<Image> {
+    match changed(alloc, at, change) {
+        Ok(file) => image_of(alloc, &file),
+        Err(_) => None,
+    }
+}
+
+fn loads(alloc: Global) -> bool {
     // p_memsz is 136.
-    let image = read_image(rt.alloc(), &changed(rt.alloc(), 104, &[136])?)?;
-    assert!(rt; is_loaded(&image));
-    assert!(rt; has_bytes(&image) && has_words(&image) && has_fetches(&image, &FETCHES));
-    Ok(())
+    match image_with(alloc, 104, &[136]) {
+        Some(image) => {
+            is_loaded(&image)
+                && has_bytes(&image)
+                && has_words(&image)
+                && has_fetches(&image, &FETCHES)
+        }
+        None => false,
+    }
+}
+
+#[test]
+fn bytes_are_loaded_and_the_rest_is_zero(rt: HostRuntime) {
+    assert!(rt; loads(rt.alloc()));
 }
 
 const FETCHES_OF_BOTH_LENGTHS: [(u64, Option<(u32, u8)>); 6] = [
@@ -283,12 +324,17 @@ const FETCHES_OF_BOTH_LENGTHS: [(u64, Option<(u32, u8)>); 6] = [
     (0x10080, None),
 ];
 
+fn loads_compressed(alloc: Global) -> bool {
+    match image_with(alloc, 48, &[1]) {
+        Some(image) => image.unit == 2 && has_fetches(&image, &FETCHES_OF_BOTH_LENGTHS),
+        None => false,
+    }
+}
+
 #[test]
-fn code_may_be_compressed(rt: HostRuntime) -> Result<(), Fail> {
+fn code_may_be_compressed(rt: HostRuntime) {
     assert!(rt; fetch_length(2, 0x15) == 2 && fetch_length(2, 0x13) == 4);
-    let image = read_image(rt.alloc(), &changed(rt.alloc(), 48, &[1])?)?;
-    assert!(rt; image.unit == 2 && has_fetches(&image, &FETCHES_OF_BOTH_LENGTHS));
-    Ok(())
+    assert!(rt; loads_compressed(rt.alloc()));
 }
 
 /// The lowest byte of the entry, the flags, and whether there is an image: the two last bytes of a file with
@@ -301,21 +347,28 @@ const ENTRIES: [(u8, u8, bool); 5] = [
     (0x7c, 0, true),
 ];
 
-fn entries_need_fetches(alloc: Global) -> Result<bool, Fail> {
+fn is_entered(alloc: Global, entry: u8, flags: u8) -> bool {
+    match changed(alloc, 24, &[entry]) {
+        Ok(mut file) => {
+            put(&mut file, 48, &[flags]);
+            read_image(alloc, &file).is_ok()
+        }
+        Err(_) => false,
+    }
+}
+
+fn entries_need_fetches(alloc: Global) -> bool {
     for (entry, flags, accepted) in ENTRIES.iter() {
-        let mut bytes = changed(alloc, 24, &[*entry])?;
-        put(&mut bytes, 48, &[*flags]);
-        if read_image(alloc, &bytes).is_ok() != *accepted {
-            return Ok(false);
+        if is_entered(alloc, *entry, *flags) != *accepted {
+            return false;
         }
     }
-    Ok(true)
+    true
 }
 
 #[test]
-fn an_entry_needs_a_fetch(rt: HostRuntime) -> Result<(), Fail> {
-    assert!(rt; entries_need_fetches(rt.alloc())?);
-    Ok(())
+fn an_entry_needs_a_fetch(rt: HostRuntime) {
+    assert!(rt; entries_need_fetches(rt.alloc()));
 }
 
 // The texts of the string table: none, `f`, `g`, `1x`, `.a$_Z9`, and `h` with no zero byte behind it.
@@ -395,8 +448,7 @@ fn file_with_symbols(alloc: Global) -> Result<Vec<u8>, AllocError> {
     Ok(file)
 }
 
-fn are_serving(image: &Image) -> bool {
-    let symbols = image.symbols.as_slice();
+fn are_serving(symbols: &[Symbol]) -> bool {
     for (symbol, (name, value)) in symbols.iter().zip(SERVING.iter()) {
         if symbol.name.as_slice() != *name || symbol.value != *value {
             return false;
@@ -405,11 +457,27 @@ fn are_serving(image: &Image) -> bool {
     symbols.len() == SERVING.len()
 }
 
+/// The image of the file with symbols, with another byte at one place.
+fn image_with_symbols(alloc: Global, at: usize, byte: u8) -> Option<Image> {
+    match file_with_symbols(alloc) {
+        Ok(mut file) => {
+            put(&mut file, at, &[byte]);
+            image_of(alloc, &file)
+        }
+        Err(_) => None,
+    }
+}
+
+fn some_serve(alloc: Global) -> bool {
+    match image_with_symbols(alloc, 0, 0x7f) {
+        Some(image) => are_serving(image.symbols.as_slice()),
+        None => false,
+    }
+}
+
 #[test]
-fn three_of_ten_serve(rt: HostRuntime) -> Result<(), Fail> {
-    let image = read_image(rt.alloc(), &file_with_symbols(rt.alloc())?)?;
-    assert!(rt; are_serving(&image));
-    Ok(())
+fn three_of_ten_serve(rt: HostRuntime) {
+    assert!(rt; some_serve(rt.alloc()));
 }
 
 // What makes the symbols fewer: an offset in the file, a byte to be put there, and how many are left.
@@ -425,19 +493,23 @@ const FEWER: [(usize, u8, usize); 9] = [
     (547, 2, 0), // sh_size of the string table
 ];
 
-fn changes_leave_fewer(alloc: Global) -> Result<bool, Fail> {
+fn leaves(alloc: Global, at: usize, byte: u8, left: usize) -> bool {
+    match image_with_symbols(alloc, at, byte) {
+        Some(image) => image.symbols.len() == left,
+        None => false,
+    }
+}
+
+fn changes_leave_fewer(alloc: Global) -> bool {
     for (at, byte, left) in FEWER.iter() {
-        let mut bytes = file_with_symbols(alloc)?;
-        put(&mut bytes, *at, &[*byte]);
-        if read_image(alloc, &bytes)?.symbols.len() != *left {
-            return Ok(false);
+        if !leaves(alloc, *at, *byte, *left) {
+            return false;
         }
     }
-    Ok(true)
+    true
 }
 
 #[test]
-fn a_table_that_cannot_be_read_has_none(rt: HostRuntime) -> Result<(), Fail> {
-    assert!(rt; changes_leave_fewer(rt.alloc())?);
-    Ok(())
+fn a_table_that_cannot_be_read_has_none(rt: HostRuntime) {
+    assert!(rt; changes_leave_fewer(rt.alloc()));
 }

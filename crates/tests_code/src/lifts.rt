@@ -1,5 +1,7 @@
 //! What instructions give to tracked names, track lists, and a program, by hand.
 
+ghost use Rattle.frame_offsets.specs.Frames.{AreOffsetsOf};
+
 use crate::images::{push_section, push_symbol};
 use affine_lift::{TrackRefusal, lift, read_tracked};
 use affine_prog::{Assign, Edge, Kind, Proc, Program};
@@ -8,27 +10,71 @@ use elf_write::{
     FileHeader, SegmentHeader, file_of_words, push_file_header, push_program_header, push_words,
 };
 use flow_points::{Points, recover};
-use frame_offsets::offsets;
-use report_text::Name;
+use frame_offsets::{Offsets, offsets};
+use report_text::{Name, Tracked};
 use std::alloc::{AllocError, Global};
-use std::test::Fail;
 use word_rows::Row;
 
 const EBREAK: u32 = 0x00100073;
 
-/// The image and the points of a small file with this code.
-fn read(alloc: Global, words: &[u32]) -> Result<(Image, Points), Fail> {
-    let image = read_image(alloc, &file_of_words(alloc, words)?)?;
-    let points = recover(alloc, &image)?;
-    Ok((image, points))
+/// The image of a small file with this code.
+fn image_of(alloc: Global, words: &[u32]) -> Option<Image> {
+    match file_of_words(alloc, words) {
+        Ok(file) => image_in(alloc, &file),
+        Err(_) => None,
+    }
+}
+
+fn image_in(alloc: Global, file: &[u8]) -> Option<Image> {
+    match read_image(alloc, file) {
+        Ok(image) => Some(image),
+        Err(_) => None,
+    }
+}
+
+fn points_in(alloc: Global, image: &Image) -> Option<Points> {
+    match recover(alloc, image) {
+        Ok(points) => Some(points),
+        Err(_) => None,
+    }
 }
 
 /// The program of a small file with this code, for a track list.
-fn lifted(alloc: Global, words: &[u32], list: &str) -> Result<Program, Fail> {
-    let (image, points) = read(alloc, words)?;
-    let offsets = offsets(alloc, &points).ok().ok_or("memory")?;
-    let tracked = read_tracked(alloc, list, &image, &points)?;
-    Ok(lift(alloc, &points, &offsets, &tracked)?)
+fn program_of(alloc: Global, words: &[u32], list: &str) -> Option<Program> {
+    match image_of(alloc, words) {
+        Some(image) => program_in(alloc, &image, list),
+        None => None,
+    }
+}
+
+fn program_in(alloc: Global, image: &Image, list: &str) -> Option<Program> {
+    match points_in(alloc, image) {
+        Some(points) => program_at(alloc, image, &points, list),
+        None => None,
+    }
+}
+
+fn program_at(alloc: Global, image: &Image, points: &Points, list: &str) -> Option<Program> {
+    match read_tracked(alloc, list, image, points) {
+        Ok(tracked) => program_for(alloc, points, &tracked),
+        Err(_) => None,
+    }
+}
+
+fn program_for(alloc: Global, points: &Points, tracked: &Tracked) -> Option<Program> {
+    match offsets(alloc, points) {
+        Ok(offsets) => lifted(alloc, points, &offsets, tracked),
+        Err(_) => None,
+    }
+}
+
+fn lifted(alloc: Global, points: &Points, offsets: &Offsets, tracked: &Tracked) -> Option<Program>
+    requires { AreOffsetsOf points.now offsets.now }
+{
+    match lift(alloc, points, offsets, tracked) {
+        Ok(program) => Some(program),
+        Err(_) => None,
+    }
 }
 
 /// The assignments of an edge, before it calls, if it does.
@@ -40,11 +86,17 @@ fn assigns_of(kind: &Kind) -> &[Assign] {
 }
 
 /// Whether a word gives these assignments to a0, a1, the slots at -8 and -16, and ra, behind `addi sp,sp,-16`.
-fn gives(alloc: Global, word: u32, assigns: &[Assign]) -> Result<bool, Fail> {
+fn gives(alloc: Global, word: u32, assigns: &[Assign]) -> bool {
     let code = [0xff010113, word, EBREAK, EBREAK];
-    let program = lifted(alloc, &code, "a0,a1,0x10078:-8,0x10078:-16,ra")?;
-    let edge = program.edges.get(1).ok_or("no edge")?;
-    Ok(assigns_of(&edge.kind) == assigns)
+    match program_of(alloc, &code, "a0,a1,0x10078:-8,0x10078:-16,ra") {
+        Some(program) => is_second(program.edges.as_slice(), assigns),
+        None => false,
+    }
+}
+
+/// Whether the second edge has these assignments.
+fn is_second(edges: &[Edge], assigns: &[Assign]) -> bool {
+    edges.len() > 1 && assigns_of(&edges[1].kind) == assigns
 }
 
 /// These factors of a0, a1 and the slots at -8 and -16, and a constant.
@@ -90,24 +142,19 @@ const SUMS: [(u32, u8, [u64; 4], u64); 26] = [
     (0x00013023, 3, [0; 4], 0), // sd zero,0(sp)
 ];
 
-/// The first of these words that gives something else.
-fn first_unlike_sum(
-    alloc: Global,
-    cases: &[(u32, u8, [u64; 4], u64)],
-) -> Result<Option<u32>, Fail> {
-    for (word, place, factors, constant) in cases {
+fn all_give_sums(alloc: Global) -> bool {
+    for (word, place, factors, constant) in SUMS.iter() {
         let sum = Assign::Affine(*place, row(*factors, *constant));
-        if !gives(alloc, *word, &[sum])? {
-            return Ok(Some(*word));
+        if !gives(alloc, *word, &[sum]) {
+            return false;
         }
     }
-    Ok(None)
+    true
 }
 
 #[test]
-fn sums_of_registers_and_slots(rt: HostRuntime) -> Result<(), Fail> {
-    assert_eq!(rt; first_unlike_sum(rt.alloc(), &SUMS)?, None);
-    Ok(())
+fn sums_of_registers_and_slots(rt: HostRuntime) {
+    assert!(rt; all_give_sums(rt.alloc()));
 }
 
 /// Words that set the name at a position to any word.
@@ -150,34 +197,30 @@ const NOTHING: [u32; 9] = [
     0x0080006f,
 ];
 
-/// The first of these words that gives anything but any word at its position.
-fn first_known(alloc: Global, cases: &[(u32, u8)]) -> Result<Option<u32>, Fail> {
-    for (word, place) in cases {
-        if !gives(alloc, *word, &[Assign::Any(*place)])? {
-            return Ok(Some(*word));
+fn all_give_any(alloc: Global) -> bool {
+    for (word, place) in UNKNOWNS.iter() {
+        if !gives(alloc, *word, &[Assign::Any(*place)]) {
+            return false;
         }
     }
-    Ok(None)
+    true
 }
 
-/// The first of these words that gives anything but these assignments.
-fn first_unlike(alloc: Global, words: &[u32], assigns: &[Assign]) -> Result<Option<u32>, Fail> {
+fn all_give(alloc: Global, words: &[u32], assigns: &[Assign]) -> bool {
     for word in words {
-        if !gives(alloc, *word, assigns)? {
-            return Ok(Some(*word));
+        if !gives(alloc, *word, assigns) {
+            return false;
         }
     }
-    Ok(None)
+    true
 }
 
 #[test]
-fn unknown_words(rt: HostRuntime) -> Result<(), Fail> {
+fn unknown_words(rt: HostRuntime) {
     let alloc = rt.alloc();
-    let both = [Assign::Any(2), Assign::Any(3)];
-    assert_eq!(rt; first_known(alloc, &UNKNOWNS)?, None);
-    assert_eq!(rt; first_unlike(alloc, &BOTH_SLOTS, &both)?, None);
-    assert_eq!(rt; first_unlike(alloc, &NOTHING, &[])?, None);
-    Ok(())
+    assert!(rt; all_give_any(alloc));
+    assert!(rt; all_give(alloc, &BOTH_SLOTS, &[Assign::Any(2), Assign::Any(3)]));
+    assert!(rt; all_give(alloc, &NOTHING, &[]));
 }
 
 /// Lists on a file whose one procedure is 0x10078, with why each is refused.
@@ -221,9 +264,9 @@ fn is_refused(
 
 fn are_refused(
     alloc: Global,
-    lists: &[(&str, TrackRefusal)],
     image: &Image,
     points: &Points,
+    lists: &[(&str, TrackRefusal)],
 ) -> bool {
     for (list, refusal) in lists {
         if !is_refused(alloc, list, image, points, *refusal) {
@@ -233,11 +276,23 @@ fn are_refused(
     true
 }
 
+fn refuses(alloc: Global, image: &Image, lists: &[(&str, TrackRefusal)]) -> bool {
+    match points_in(alloc, image) {
+        Some(points) => are_refused(alloc, image, &points, lists),
+        None => false,
+    }
+}
+
+fn refuses_lists(alloc: Global) -> bool {
+    match image_of(alloc, &[0x00500513, EBREAK]) {
+        Some(image) => refuses(alloc, &image, &REFUSED),
+        None => false,
+    }
+}
+
 #[test]
-fn refused_lists(rt: HostRuntime) -> Result<(), Fail> {
-    let (image, points) = read(rt.alloc(), &[0x00500513, EBREAK])?;
-    assert!(rt; are_refused(rt.alloc(), &REFUSED, &image, &points));
-    Ok(())
+fn refused_lists(rt: HostRuntime) {
+    assert!(rt; refuses_lists(rt.alloc()));
 }
 
 /// Symbols, by their place among the texts `main`, `a0` and `end`, and their values.
@@ -295,10 +350,19 @@ const NAMES: [Name; 5] = [
     },
 ];
 
-fn are_named(alloc: Global, image: &Image, points: &Points) -> Result<bool, Fail> {
+fn are_named(alloc: Global, image: &Image, points: &Points) -> bool {
     let list = "a0,x11,0x10078:-2048,main:-8,a0:-16";
-    let tracked = read_tracked(alloc, list, image, points)?;
-    Ok(tracked.names.as_slice() == NAMES.as_slice())
+    match read_tracked(alloc, list, image, points) {
+        Ok(tracked) => tracked.names.as_slice() == NAMES.as_slice(),
+        Err(_) => false,
+    }
+}
+
+fn has_names(alloc: Global, image: &Image) -> bool {
+    match points_in(alloc, image) {
+        Some(points) => are_named(alloc, image, &points),
+        None => false,
+    }
 }
 
 /// Lists on that file, with why each is refused.
@@ -310,13 +374,23 @@ const REFUSED_NAMES: [(&str, TrackRefusal); 5] = [
     ("0x10078:-8,main:-8", TrackRefusal::Repeated(2)),
 ];
 
+fn image_with_symbols(alloc: Global) -> Option<Image> {
+    match file_with_symbols(alloc) {
+        Ok(file) => image_in(alloc, &file),
+        Err(_) => None,
+    }
+}
+
+fn serves_names(alloc: Global) -> bool {
+    match image_with_symbols(alloc) {
+        Some(image) => has_names(alloc, &image) && refuses(alloc, &image, &REFUSED_NAMES),
+        None => false,
+    }
+}
+
 #[test]
-fn names_of_lists(rt: HostRuntime) -> Result<(), Fail> {
-    let image = read_image(rt.alloc(), &file_with_symbols(rt.alloc())?)?;
-    let points = recover(rt.alloc(), &image)?;
-    assert!(rt; are_named(rt.alloc(), &image, &points)?);
-    assert!(rt; are_refused(rt.alloc(), &REFUSED_NAMES, &image, &points));
-    Ok(())
+fn names_of_lists(rt: HostRuntime) {
+    assert!(rt; serves_names(rt.alloc()));
 }
 
 /// jal ra,8; ebreak; addi sp,sp,-16; sd ra,8(sp); beq a0,zero,8; jal ra,-12; ld ra,8(sp); addi sp,sp,16; ret
@@ -367,13 +441,6 @@ fn are_edges(edges: &[Edge], cases: &[(u32, u32, Option<u32>, Option<u8>, [u64; 
     edges.len() == cases.len()
 }
 
-#[test]
-fn edges_of_a_recursion(rt: HostRuntime) -> Result<(), Fail> {
-    let program = lifted(rt.alloc(), &RECURSION, "sp,ra,0x10080:-8")?;
-    assert!(rt; are_edges(program.edges.as_slice(), &EDGES));
-    Ok(())
-}
-
 const PROCS: [Proc; 2] = [
     Proc {
         entry: 0,
@@ -389,7 +456,7 @@ const PROCS: [Proc; 2] = [
 
 const OWNERS: [u32; 11] = [0, 0, 1, 1, 1, 1, 1, 1, 1, 0, 1];
 
-fn is_recursion(program: &Program) -> bool {
+fn has_nodes(program: &Program) -> bool {
     program.width == 3
         && program.registers == 0b011
         && program.nodes == 11
@@ -398,8 +465,14 @@ fn is_recursion(program: &Program) -> bool {
         && program.owners.as_slice() == OWNERS.as_slice()
 }
 
+fn is_recursion(alloc: Global) -> bool {
+    match program_of(alloc, &RECURSION, "sp,ra,0x10080:-8") {
+        Some(program) => has_nodes(&program) && are_edges(program.edges.as_slice(), &EDGES),
+        None => false,
+    }
+}
+
 #[test]
-fn nodes_of_a_recursion(rt: HostRuntime) -> Result<(), Fail> {
-    assert!(rt; is_recursion(&lifted(rt.alloc(), &RECURSION, "sp,ra,0x10080:-8")?));
-    Ok(())
+fn a_recursion(rt: HostRuntime) {
+    assert!(rt; is_recursion(rt.alloc()));
 }

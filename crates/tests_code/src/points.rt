@@ -5,7 +5,6 @@ use elf_write::{file_of_code, file_of_words, push_number};
 use flow_points::{Flow, FlowRefusal, Point, Points, recover};
 use rv_decode::Instr;
 use std::alloc::{AllocError, Global};
-use std::test::Fail;
 
 const NOP: u32 = 0x00050513; // addi a0,a0,0
 
@@ -13,10 +12,20 @@ const EBREAK: u32 = 0x00100073;
 
 const RETURN: u32 = 0x00008067;
 
-/// The points of a small file with this code.
-fn points_of(alloc: Global, words: &[u32]) -> Result<Result<Points, FlowRefusal>, Fail> {
-    let image = read_image(alloc, &file_of_words(alloc, words)?)?;
-    Ok(recover(alloc, &image))
+/// The points of a file, or why there are none: Memory where it has no image.
+fn points_in(alloc: Global, file: &[u8]) -> Result<Points, FlowRefusal> {
+    match read_image(alloc, file) {
+        Ok(image) => recover(alloc, &image),
+        Err(_) => Err(FlowRefusal::Memory),
+    }
+}
+
+/// The same of a small file with these code words.
+pub(crate) fn points_of(alloc: Global, words: &[u32]) -> Result<Points, FlowRefusal> {
+    match file_of_words(alloc, words) {
+        Ok(file) => points_in(alloc, &file),
+        Err(_) => Err(FlowRefusal::Memory),
+    }
 }
 
 /// A small file whose code may be compressed and has these halves.
@@ -28,10 +37,12 @@ fn file_of_halves(alloc: Global, halves: &[u16]) -> Result<Vec<u8>, AllocError> 
     file_of_code(alloc, 1, &code)
 }
 
-/// Its points.
-fn points_of_halves(alloc: Global, halves: &[u16]) -> Result<Result<Points, FlowRefusal>, Fail> {
-    let image = read_image(alloc, &file_of_halves(alloc, halves)?)?;
-    Ok(recover(alloc, &image))
+/// The same of this file.
+fn points_of_halves(alloc: Global, halves: &[u16]) -> Result<Points, FlowRefusal> {
+    match file_of_halves(alloc, halves) {
+        Ok(file) => points_in(alloc, &file),
+        Err(_) => Err(FlowRefusal::Memory),
+    }
 }
 
 /// Whether these are the points, in order, and each is found.
@@ -85,19 +96,25 @@ const SHARED_TAIL_POINTS: [(u64, u64); 7] = [
     (0x10088, 0x1008c),
 ];
 
-fn files_have_their_points(alloc: Global) -> Result<bool, Fail> {
+fn has_points(alloc: Global, words: &[u32], expected: &[(u64, u64)]) -> bool {
+    match points_of(alloc, words) {
+        Ok(points) => are_points(&points, expected),
+        Err(_) => false,
+    }
+}
+
+fn all_have_their_points(alloc: Global) -> bool {
     for (words, expected) in FILES.iter() {
-        if !are_points(&points_of(alloc, words)??, expected) {
-            return Ok(false);
+        if !has_points(alloc, words, expected) {
+            return false;
         }
     }
-    Ok(true)
+    true
 }
 
 #[test]
-fn points_ascend(rt: HostRuntime) -> Result<(), Fail> {
-    assert!(rt; files_have_their_points(rt.alloc())?);
-    Ok(())
+fn points_ascend(rt: HostRuntime) {
+    assert!(rt; all_have_their_points(rt.alloc()));
 }
 
 const PAIR_FLOWS: [Flow; 4] = [
@@ -133,11 +150,16 @@ fn is_pair(points: &Points) -> bool {
         && points.entry() == 0x10078
 }
 
+fn has_pair(alloc: Global) -> bool {
+    match points_of(alloc, &PAIR) {
+        Ok(points) => are_flows(&points, &PAIR_FLOWS) && is_pair(&points),
+        Err(_) => false,
+    }
+}
+
 #[test]
-fn code_of_points(rt: HostRuntime) -> Result<(), Fail> {
-    let points = points_of(rt.alloc(), &PAIR)??;
-    assert!(rt; are_flows(&points, &PAIR_FLOWS) && is_pair(&points));
-    Ok(())
+fn code_of_points(rt: HostRuntime) {
+    assert!(rt; has_pair(rt.alloc()));
 }
 
 /// Files, with why each is refused and the text of that.
@@ -197,41 +219,56 @@ fn is_refused(points: Result<Points, FlowRefusal>, refusal: FlowRefusal) -> bool
     }
 }
 
-fn has_text(alloc: Global, refusal: FlowRefusal, text: &str) -> Result<bool, Fail> {
-    Ok(format!(in alloc; "{refusal}")?.as_str() == text)
+fn has_text(alloc: Global, refusal: FlowRefusal, text: &str) -> bool {
+    match format!(in alloc; "{refusal}") {
+        Ok(line) => line.as_str() == text,
+        Err(_) => false,
+    }
 }
 
-fn all_are_refused(alloc: Global) -> Result<bool, Fail> {
+fn all_are_refused(alloc: Global) -> bool {
     for (words, refusal, text) in REFUSED.iter() {
-        if !is_refused(points_of(alloc, words)?, *refusal) || !has_text(alloc, *refusal, text)? {
-            return Ok(false);
+        if !is_refused(points_of(alloc, words), *refusal) || !has_text(alloc, *refusal, text) {
+            return false;
         }
     }
-    Ok(true)
+    true
 }
 
 #[test]
-fn refusals(rt: HostRuntime) -> Result<(), Fail> {
-    assert!(rt; all_are_refused(rt.alloc())?);
-    Ok(())
+fn refusals(rt: HostRuntime) {
+    assert!(rt; all_are_refused(rt.alloc()));
 }
 
 /// The points of so many words that go on to the next, and one more.
-fn straight(alloc: Global, n: usize, last: u32) -> Result<Result<Points, FlowRefusal>, Fail> {
+fn points_of_straight(alloc: Global, n: usize, last: u32) -> Result<Points, FlowRefusal> {
+    match straight(alloc, n, last) {
+        Ok(words) => points_of(alloc, &words),
+        Err(_) => Err(FlowRefusal::Memory),
+    }
+}
+
+fn straight(alloc: Global, n: usize, last: u32) -> Result<Vec<u32>, AllocError> {
     let mut words = vec![in alloc; NOP; n]?;
     words.push(last)?;
-    points_of(alloc, &words)
+    Ok(words)
+}
+
+fn count_of(points: Result<Points, FlowRefusal>) -> u32 {
+    match points {
+        Ok(points) => points.count(),
+        Err(_) => 0,
+    }
 }
 
 #[test]
-fn most_points(rt: HostRuntime) -> Result<(), Fail> {
+fn most_points(rt: HostRuntime) {
     let alloc = rt.alloc();
-    assert!(rt; straight(alloc, 16383, EBREAK)??.count() == 16384);
-    let outside = straight(alloc, 4094, NOP)?;
+    assert!(rt; count_of(points_of_straight(alloc, 16383, EBREAK)) == 16384);
+    let outside = points_of_straight(alloc, 4094, NOP);
     assert!(rt; is_refused(outside, FlowRefusal::OutsideCode(0x14074)));
-    let many = straight(alloc, 16384, EBREAK)?;
+    let many = points_of_straight(alloc, 16384, EBREAK);
     assert!(rt; is_refused(many, FlowRefusal::TooManyPoints(16384)));
-    Ok(())
 }
 
 /// Files whose code may be compressed, with the procedure, the address and the length of each point.
@@ -277,19 +314,25 @@ fn are_points_with_lengths(points: &Points, expected: &[(u64, u64, u8)]) -> bool
     points.count() == i
 }
 
-fn compressed_files_have_their_points(alloc: Global) -> Result<bool, Fail> {
+fn has_points_with_lengths(alloc: Global, halves: &[u16], expected: &[(u64, u64, u8)]) -> bool {
+    match points_of_halves(alloc, halves) {
+        Ok(points) => are_points_with_lengths(&points, expected),
+        Err(_) => false,
+    }
+}
+
+fn all_compressed_have_their_points(alloc: Global) -> bool {
     for (halves, expected) in COMPRESSED.iter() {
-        if !are_points_with_lengths(&points_of_halves(alloc, halves)??, expected) {
-            return Ok(false);
+        if !has_points_with_lengths(alloc, halves, expected) {
+            return false;
         }
     }
-    Ok(true)
+    true
 }
 
 #[test]
-fn compressed_points(rt: HostRuntime) -> Result<(), Fail> {
-    assert!(rt; compressed_files_have_their_points(rt.alloc())?);
-    Ok(())
+fn compressed_points(rt: HostRuntime) {
+    assert!(rt; all_compressed_have_their_points(rt.alloc()));
 }
 
 const COMPRESSED_REFUSED: [(&[u16], FlowRefusal); 5] = [
@@ -307,17 +350,16 @@ const COMPRESSED_REFUSED: [(&[u16], FlowRefusal); 5] = [
     (&[0x0001, 0x0513], FlowRefusal::OutsideCode(0x1007a)),
 ];
 
-fn all_compressed_are_refused(alloc: Global) -> Result<bool, Fail> {
+fn all_compressed_are_refused(alloc: Global) -> bool {
     for (halves, refusal) in COMPRESSED_REFUSED.iter() {
-        if !is_refused(points_of_halves(alloc, halves)?, *refusal) {
-            return Ok(false);
+        if !is_refused(points_of_halves(alloc, halves), *refusal) {
+            return false;
         }
     }
-    Ok(true)
+    true
 }
 
 #[test]
-fn compressed_refusals(rt: HostRuntime) -> Result<(), Fail> {
-    assert!(rt; all_compressed_are_refused(rt.alloc())?);
-    Ok(())
+fn compressed_refusals(rt: HostRuntime) {
+    assert!(rt; all_compressed_are_refused(rt.alloc()));
 }

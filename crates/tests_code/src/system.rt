@@ -55,12 +55,10 @@ fn counting(alloc: Global, length: u32) -> Result<Vec<u8>, AllocError> {
     Ok(bytes)
 }
 
-fn reads_counting<F: Files>(alloc: Global, files: &mut F, name: &str) -> Result<bool, Fail> {
-    let contents = counting(alloc, 10_000)?;
-    Ok(
-        reads_as(alloc, files, name, 10_000, &contents)
-            && fails_as(alloc, files, name, 9_999, ReadError::TooLong(9_999)),
-    )
+/// Whether a file is read whole, has these bytes, and is longer than one byte less.
+fn reads_counting<F: Files>(alloc: Global, files: &mut F, name: &str, contents: &[u8]) -> bool {
+    reads_as(alloc, files, name, 10_000, contents)
+        && fails_as(alloc, files, name, 9_999, ReadError::TooLong(9_999))
 }
 
 /// Places in the file, ahead of where it stands and behind it, and the bytes there.
@@ -76,16 +74,27 @@ fn reads_at_places<F: Files>(files: &mut F, name: &str) -> bool {
     files.read(name, 20_000, &mut byte) == Ok(0)
 }
 
+fn reads_a_file(rt: &HostRuntime, name: &str, contents: &[u8]) -> bool {
+    let alloc = rt.alloc();
+    let mut files = DiskFiles::new(alloc, rt);
+    fs::write(rt, name, contents).is_ok()
+        && reads_counting(alloc, &mut files, name, contents)
+        && reads_at_places(&mut files, name)
+        && fs::remove_file(rt, name).is_ok()
+        && fails_as(alloc, &mut files, name, 10_000, ReadError::Failed)
+}
+
+fn reads_counting_file(rt: &HostRuntime, name: &str) -> bool {
+    match counting(rt.alloc(), 10_000) {
+        Ok(contents) => reads_a_file(rt, name, &contents),
+        Err(_) => false,
+    }
+}
+
 #[test]
 fn reads_from_disk(rt: HostRuntime) -> Result<(), Fail> {
     let path = path_of(&rt, "outside")?;
-    let name = path.to_str().ok_or("no text")?;
-    fs::write(&rt, name, counting(rt.alloc(), 10_000)?.as_slice())?;
-    let mut files = DiskFiles::new(rt.alloc(), &rt);
-    assert!(rt; reads_counting(rt.alloc(), &mut files, name)?);
-    assert!(rt; reads_at_places(&mut files, name));
-    fs::remove_file(&rt, name)?;
-    assert!(rt; fails_as(rt.alloc(), &mut files, name, 10_000, ReadError::Failed));
+    assert!(rt; reads_counting_file(&rt, path.to_str().ok_or("no text")?));
     Ok(())
 }
 
@@ -99,23 +108,42 @@ fn reads_in_turn<F: Files>(alloc: Global, files: &mut F, first: &str, second: &s
         && reads_as(alloc, files, second, 100, b"slot -16")
 }
 
+fn writes_files(rt: &HostRuntime, first: &str, second: &str) -> bool {
+    fs::write(rt, first, b"slot -8").is_ok() && fs::write(rt, second, b"slot -16").is_ok()
+}
+
+fn removes_files(rt: &HostRuntime, first: &str, second: &str) -> bool {
+    fs::remove_file(rt, first).is_ok() && fs::remove_file(rt, second).is_ok()
+}
+
+/// Replaces a file that is open at its beginning, and reads it.
+fn reads_replaced<F: Files>(rt: &HostRuntime, files: &mut F, name: &str) -> bool {
+    files.read(name, 0, &mut []) == Ok(0)
+        && fs::remove_file(rt, name).is_ok()
+        && fs::write(rt, name, b"slot -24").is_ok()
+        && reads_as(rt.alloc(), files, name, 100, b"slot -24")
+}
+
+fn reads_two_files(rt: &HostRuntime, first: &str, second: &str) -> bool {
+    let mut files = DiskFiles::new(rt.alloc(), rt);
+    writes_files(rt, first, second)
+        && reads_in_turn(rt.alloc(), &mut files, first, second)
+        && reads_replaced(rt, &mut files, first)
+        && removes_files(rt, first, second)
+}
+
+fn reads_two_paths(rt: &HostRuntime, first: Option<&str>, second: Option<&str>) -> bool {
+    match (first, second) {
+        (Some(first), Some(second)) => reads_two_files(rt, first, second),
+        _ => false,
+    }
+}
+
 #[test]
 fn reads_each_file_from_its_beginning(rt: HostRuntime) -> Result<(), Fail> {
-    let first_path = path_of(&rt, "outside-first")?;
-    let second_path = path_of(&rt, "outside-second")?;
-    let first = first_path.to_str().ok_or("no text")?;
-    let second = second_path.to_str().ok_or("no text")?;
-    fs::write(&rt, first, b"slot -8")?;
-    fs::write(&rt, second, b"slot -16")?;
-    let mut files = DiskFiles::new(rt.alloc(), &rt);
-    assert!(rt; reads_in_turn(rt.alloc(), &mut files, first, second));
-    // A file that is replaced while it is open at its beginning.
-    assert!(rt; files.read(first, 0, &mut []) == Ok(0));
-    fs::remove_file(&rt, first)?;
-    fs::write(&rt, first, b"slot -24")?;
-    assert!(rt; reads_as(rt.alloc(), &mut files, first, 100, b"slot -24"));
-    fs::remove_file(&rt, first)?;
-    fs::remove_file(&rt, second)?;
+    let first = path_of(&rt, "outside-first")?;
+    let second = path_of(&rt, "outside-second")?;
+    assert!(rt; reads_two_paths(&rt, first.to_str(), second.to_str()));
     Ok(())
 }
 

@@ -16,7 +16,7 @@ ghost use Rattle.top_call.specs.Completeness.{IsUnhindered, IsDone};
 use crate::file_orders::{reply_to_analyse, reply_to_cert, reply_to_list};
 use crate::report_orders::{reply_to_run, reply_to_upgrade};
 use analyser_core::reports_tell_of_runs;
-use call_ends::{Reply, reply, say, say_reply};
+use call_ends::{Reply, reply_of, say, say_reply};
 use order_answers::answer_to_gen;
 use orders::{Order, read_order};
 use outside::{Files, Sink};
@@ -118,7 +118,7 @@ fn carry_out<F: Files, K: Sink>(
             steps,
             regs,
         } => check_run(alloc, files, out, file, report, steps, regs, watches),
-        Order::Generate { n, list } => say_reply(out, reply(answer_to_gen(alloc, n, list))),
+        Order::Generate { n, list } => say_reply(out, reply_of(answer_to_gen(alloc, n, list))),
         Order::Upgrade { file, report } => {
             say_reply(out, reply_to_upgrade(alloc, files, file, report))
         }

@@ -6,7 +6,7 @@ ghost use Rattle.call_ends.specs.Replies.{AnswersWith};
 ghost use Rattle.order_answers.specs.Answers.{report_text, IsAnswer, IsListing};
 ghost use Rattle.order_answers.specs.CertsText.{certs_text};
 
-use call_ends::{Reply, file_bytes, reply};
+use call_ends::{Reply, file_bytes, reply_of};
 use order_answers::{answer_to_analyse, answer_to_cert, answer_to_list};
 use outside::Files;
 use std::alloc::Global;
@@ -17,7 +17,7 @@ pub fn reply_to_analyse<F: Files>(alloc: Global, files: &mut F, file: &str, list
         (HasRisen (F.faults files.old file.now) (F.faults files.new file.now)) result }
 {
     match file_bytes(alloc, files, file) {
-        Ok(bytes) => reply(answer_to_analyse(alloc, &bytes, list)),
+        Ok(bytes) => reply_of(answer_to_analyse(alloc, &bytes, list)),
         Err(reply) => reply,
     }
 }
@@ -28,7 +28,7 @@ pub fn reply_to_cert<F: Files>(alloc: Global, files: &mut F, file: &str, list: &
         (HasRisen (F.faults files.old file.now) (F.faults files.new file.now)) result }
 {
     match file_bytes(alloc, files, file) {
-        Ok(bytes) => reply(answer_to_cert(alloc, &bytes, list)),
+        Ok(bytes) => reply_of(answer_to_cert(alloc, &bytes, list)),
         Err(reply) => reply,
     }
 }
@@ -39,7 +39,7 @@ pub fn reply_to_list<F: Files>(alloc: Global, files: &mut F, file: &str) -> Repl
         (HasRisen (F.faults files.old file.now) (F.faults files.new file.now)) result }
 {
     match file_bytes(alloc, files, file) {
-        Ok(bytes) => reply(answer_to_list(alloc, &bytes)),
+        Ok(bytes) => reply_of(answer_to_list(alloc, &bytes)),
         Err(reply) => reply,
     }
 }

@@ -11,7 +11,7 @@ ghost use Rattle.top_call.specs.Answers.{IsReadFault};
 ghost use Rattle.top_call.specs.Inputs.{AreInputs, HasCode};
 
 use crate::four_watches::in_order;
-use call_ends::{Reply, file_bytes, reply, report_bytes};
+use call_ends::{Reply, file_bytes, reply_of, report_bytes};
 use elf_image::Image;
 use flow_points::Points;
 use order_answers::{answer_to_run, answer_to_upgrade, code_of, refused};
@@ -85,7 +85,7 @@ fn reply_under<F: Files>(
         (HasRisen (F.faults files.old report.now) (F.faults files.new report.now))) result }
 {
     match read_inputs(alloc, files, file, report) {
-        Ok(inputs) => reply(answer_to_run(
+        Ok(inputs) => reply_of(answer_to_run(
             alloc,
             &inputs.image,
             &inputs.points,
@@ -105,7 +105,7 @@ pub fn reply_to_upgrade<F: Files>(alloc: Global, files: &mut F, file: &str, repo
         (HasRisen (F.faults files.old report.now) (F.faults files.new report.now))) result }
 {
     match read_inputs(alloc, files, file, report) {
-        Ok(inputs) => reply(answer_to_upgrade(alloc, &inputs.points, &inputs.report)),
+        Ok(inputs) => reply_of(answer_to_upgrade(alloc, &inputs.points, &inputs.report)),
         Err(reply) => reply,
     }
 }
@@ -156,7 +156,7 @@ fn read_code<F: Files>(alloc: Global, files: &mut F, file: &str) -> Result<(Imag
     match file_bytes(alloc, files, file) {
         Ok(bytes) => match code_of(alloc, &bytes) {
             Ok(code) => Ok(code),
-            Err(refusal) => Err(reply(refused(alloc, &bytes, refusal))),
+            Err(refusal) => Err(reply_of(refused(alloc, &bytes, refusal))),
         },
         Err(reply) => Err(reply),
     }

@@ -1,6 +1,6 @@
 use Rattle.std.proofs.Common.{refl}
 use Rattle.order_answers.specs.Answers.{report_text, analysed}
-use Rattle.order_answers.proofs.Refused.{answer_refused}
+use Rattle.order_answers.proofs.LinesTold.{answer_refused}
 use Rattle.order_answers.proofs.analyse_order.answer_to_analyse.Goals as goal
 
 pub returns-in_ok-write_report-in-Ok : goal.returns-in_ok-write_report-in-Ok

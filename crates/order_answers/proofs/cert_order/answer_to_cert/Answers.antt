@@ -1,7 +1,7 @@
 use Rattle.std.proofs.Common.{refl}
 use Rattle.order_answers.specs.Answers.{analysed}
 use Rattle.order_answers.specs.CertsText.{certs_text}
-use Rattle.order_answers.proofs.Refused.{answer_refused}
+use Rattle.order_answers.proofs.LinesTold.{answer_refused}
 use Rattle.order_answers.proofs.cert_order.answer_to_cert.Goals as goal
 
 pub write_certs-requires : goal.write_certs-requires

@@ -1,4 +1,4 @@
-use Rattle.order_answers.proofs.Refused.{bytes_refused, code_refused}
+use Rattle.order_answers.proofs.LinesTold.{bytes_refused, code_refused}
 use Rattle.order_answers.proofs.file_code.code_of.Goals as goal
 
 pub returns-in-Err : goal.returns-in-Err

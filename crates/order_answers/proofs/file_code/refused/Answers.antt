@@ -1,4 +1,4 @@
-use Rattle.order_answers.proofs.Refused.{file_refused}
+use Rattle.order_answers.proofs.LinesTold.{file_refused}
 use Rattle.order_answers.proofs.file_code.refused.Goals as goal
 
 pub returns : goal.returns

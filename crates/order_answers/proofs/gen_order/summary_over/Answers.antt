@@ -1,7 +1,7 @@
 use Rattle.std.proofs.Common.{refl}
 use Rattle.order_answers.specs.Answers.{analysed}
 use Rattle.order_answers.specs.GenText.{gen_text}
-use Rattle.order_answers.proofs.Refused.{answer_refused}
+use Rattle.order_answers.proofs.LinesTold.{answer_refused}
 use Rattle.order_answers.proofs.RowsTold.{few_points}
 use Rattle.order_answers.proofs.gen_order.summary_over.Goals as goal
 

@@ -1,6 +1,6 @@
 use Rattle.std.proofs.Common.{refl}
 use Rattle.order_answers.specs.Answers.{listed}
-use Rattle.order_answers.proofs.Refused.{listing_refused}
+use Rattle.order_answers.proofs.LinesTold.{listing_refused}
 use Rattle.order_answers.proofs.list_order.answer_to_list.Goals as goal
 
 pub returns-in-Ok : goal.returns-in-Ok

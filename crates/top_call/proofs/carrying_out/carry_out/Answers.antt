@@ -20,8 +20,8 @@ returns-in-ListCode-clause-carried_out g c =
 
 pub returns-in-Generate-clause-carried_out : goal.returns-in-Generate-clause-carried_out
 returns-in-Generate-clause-carried_out g c =
-    rw c.in-Generate.is (reply_ends _ _ _ c.reply.result _
-    (reply_answers _ ⊥ c.answer_to_gen.result _ c.reply.ensures c.answer_to_gen.ensures) c.say_reply-in-Generate.ensures.said)
+    rw c.in-Generate.is (reply_ends _ _ _ c.reply_of.result _
+    (reply_answers _ ⊥ c.answer_to_gen.result _ c.reply_of.ensures c.answer_to_gen.ensures) c.say_reply-in-Generate.ensures.said)
 
 pub returns-in-CheckRun-clause-carried_out : goal.returns-in-CheckRun-clause-carried_out
 returns-in-CheckRun-clause-carried_out g c = rw c.in-CheckRun.is c.check_run.ensures.carried_out

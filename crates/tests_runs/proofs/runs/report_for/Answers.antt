@@ -4,7 +4,7 @@ use Rattle.std.proofs.lemmas.List.Elements.{All-nil}
 use Rattle.report_text.specs.Reports.{Ascend, AreRowsAt}
 use Rattle.report_text.specs.declared.points.PointRows.{PointRows}
 use Rattle.std.specs.Prelude.{All}
-use Rattle.run_verdicts.proofs.tests.run_under.Goals as goal
+use Rattle.tests_runs.proofs.runs.report_for.Goals as goal
 
 pub invariant_of-report : goal.invariant_of-report
 invariant_of-report c = record {
