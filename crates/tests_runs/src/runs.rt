@@ -145,8 +145,11 @@ fn run_report(
     requires steps { steps ≤ 1000000000 }
     requires points { ArePointsOf image.now points.now }
 {
-    match offsets(alloc, points) {
-        Ok(offsets) => watched(alloc, image, points, &offsets, report, steps, which),
+    let Ok(offsets) = offsets(alloc, points) else {
+        return None;
+    };
+    match watched(alloc, image, points, &offsets, report, steps, which) {
+        Ok(verdict) => verdict,
         Err(_) => None,
     }
 }
@@ -159,7 +162,7 @@ fn watched(
     report: &Report,
     steps: u64,
     which: Watches,
-) -> Option<RunVerdict>
+) -> Result<Option<RunVerdict>, AllocError>
     requires steps { steps ≤ 1000000000 }
     requires points { ArePointsOf image.now points.now }
     requires offsets { AreOffsetsOf points.now offsets.now }
@@ -168,31 +171,19 @@ fn watched(
     regs[2] = 0x2_0000;
     regs[10] = 3;
     let mut watches: Vec<Box<dyn Watch>> = Vec::new(alloc);
-    if push_watches(alloc, &mut watches, which).is_err() {
-        return None;
+    if which != Watches::None {
+        watches.push(Box::new(alloc, RelationWatch::new())?)?;
+        watches.push(Box::new(alloc, StoreWatch::new())?)?;
+        watches.push(Box::new(alloc, ReturnWatch::new())?)?;
+        watches.push(Box::new(alloc, CodeWatch::new())?)?;
     }
-    match check_run(alloc, image, points, offsets, report, regs, steps, watches) {
-        Ok(verdict) => Some(verdict),
-        Err(_) => None,
-    }
-}
-
-fn push_watches(
-    alloc: Global,
-    watches: &mut Vec<Box<dyn Watch>>,
-    which: Watches,
-) -> Result<(), AllocError> {
-    if which == Watches::None {
-        return Ok(());
-    }
-    watches.push(Box::new(alloc, RelationWatch::new())?)?;
-    watches.push(Box::new(alloc, StoreWatch::new())?)?;
-    watches.push(Box::new(alloc, ReturnWatch::new())?)?;
-    watches.push(Box::new(alloc, CodeWatch::new())?)?;
     if which == Watches::Five {
         watches.push(Box::new(alloc, CountWatch { count: 0 })?)?;
     }
-    Ok(())
+    match check_run(alloc, image, points, offsets, report, regs, steps, watches) {
+        Ok(verdict) => Ok(Some(verdict)),
+        Err(_) => Ok(None),
+    }
 }
 
 /// At which record a watch found something.
