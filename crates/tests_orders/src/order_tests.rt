@@ -1,7 +1,5 @@
 //! Whole orders over files and sinks in memory, and over those of the system.
 
-ghost use Rattle.std.specs.Prelude.{◌≤◌};
-
 use crate::calls::{CALL, EBREAK, USAGE, answer_to, gets, one_file, words_of};
 use elf_write::file_of_words;
 use outside::{DiskFiles, StdSink};

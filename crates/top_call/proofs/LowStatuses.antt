@@ -2,7 +2,6 @@
 use Rattle.std.proofs.Common.{◌≡◌, ◌≢◌, ℕ, ◌<◌, inl, inr, List, arith}
 use Rattle.report_text.specs.declared.reports.Report.{Report}
 use Rattle.run_answers.specs.Answers as runs
-use Rattle.run_answers.specs.Answers.{IsRunAnswer}
 use Rattle.run_answers.specs.Laws.{IsVerdictStatus}
 use Rattle.run_answers.proofs.OwnReports.{checked_have_verdicts}
 use Rattle.analyser_core.specs.declared.cert_line.CertLine.{CertLine}

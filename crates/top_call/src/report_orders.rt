@@ -89,7 +89,7 @@ fn reply_under<F: Files>(
             alloc,
             &inputs.image,
             &inputs.points,
-            &inputs.report,
+            inputs.report.as_slice(),
             steps,
             start,
             watches,
@@ -105,7 +105,7 @@ pub fn reply_to_upgrade<F: Files>(alloc: Global, files: &mut F, file: &str, repo
         (HasRisen (F.faults files.old report.now) (F.faults files.new report.now))) result }
 {
     match read_inputs(alloc, files, file, report) {
-        Ok(inputs) => reply_of(answer_to_upgrade(alloc, &inputs.points, &inputs.report)),
+        Ok(inputs) => reply_of(answer_to_upgrade(alloc, &inputs.points, inputs.report.as_slice())),
         Err(reply) => reply,
     }
 }

@@ -8,7 +8,7 @@ use Rattle.top_call.proofs.report_orders.reply_to_upgrade.Goals as goal
 pub returns-in-Ok : goal.returns-in-Ok
 returns-in-Ok g c =
     reply_answers _ _ c.answer_to_upgrade.result _ c.reply_of.ensures
-    (upgrade_over _ _ _ _ _ c.answer_to_upgrade.result c.in-Ok.ensures c.answer_to_upgrade.ensures)
+    (upgrade_over _ _ _ _ _ _ c.answer_to_upgrade.result c.as_slice.ensures.value c.in-Ok.ensures c.answer_to_upgrade.ensures)
 
 pub returns-in-Err : goal.returns-in-Err
 returns-in-Err g c =

@@ -8,7 +8,7 @@ use Rattle.top_call.proofs.report_orders.reply_under.Goals as goal
 pub returns-in-Ok : goal.returns-in-Ok
 returns-in-Ok g c =
     reply_answers _ _ c.answer_to_run.result _ c.reply_of.ensures
-    (run_over _ _ _ _ _ c.args.start c.args.steps c.answer_to_run.result c.in-Ok.ensures c.answer_to_run.ensures)
+    (run_over _ _ _ _ _ _ c.args.start c.args.steps c.answer_to_run.result c.as_slice.ensures.value c.in-Ok.ensures c.answer_to_run.ensures)
 
 pub returns-in-Err : goal.returns-in-Err
 returns-in-Err g c =
