@@ -5,7 +5,7 @@ ghost use Rattle.std.specs.Prelude.{◌≤◌};
 ghost use Rattle.flow_points.specs.PointLists.{ArePointsOf};
 ghost use Rattle.frame_offsets.specs.Frames.{AreOffsetsOf};
 
-use affine_lift::read_tracked;
+use affine_lift::{TrackRefusal, read_tracked};
 use elf_image::{Image, read_image};
 use elf_write::file_of_words;
 use flow_points::{Points, recover};
@@ -116,22 +116,25 @@ fn run_points(
     requires points { ArePointsOf image.now points.now }
 {
     match report_for(alloc, image, points, list) {
-        Some(report) => run_report(alloc, image, points, &report, steps, which),
-        None => None,
+        Ok(report) => run_report(alloc, image, points, &report, steps, which),
+        Err(_) => None,
     }
 }
 
 /// A report for these names that tells of no point.
-fn report_for(alloc: Global, image: &Image, points: &Points, list: &str) -> Option<Report> {
-    match read_tracked(alloc, list, image, points) {
-        Ok(tracked) => Some(Report {
-            version: 1,
-            tracked,
-            certs: Items::new(alloc),
-            points: Items::new(alloc),
-        }),
-        Err(_) => None,
-    }
+fn report_for(
+    alloc: Global,
+    image: &Image,
+    points: &Points,
+    list: &str,
+) -> Result<Report, TrackRefusal> {
+    let report = Report {
+        version: 1,
+        tracked: read_tracked(alloc, list, image, points)?,
+        certs: Items::new(alloc),
+        points: Items::new(alloc),
+    };
+    Ok(report)
 }
 
 fn run_report(
@@ -145,15 +148,18 @@ fn run_report(
     requires steps { steps ≤ 1000000000 }
     requires points { ArePointsOf image.now points.now }
 {
-    let Ok(offsets) = offsets(alloc, points) else {
-        return None;
-    };
-    match watched(alloc, image, points, &offsets, report, steps, which) {
-        Ok(verdict) => verdict,
+    match offsets(alloc, points) {
+        Ok(offsets) => {
+            match watched(alloc, image, points, &offsets, report, steps, which) {
+                Ok(verdict) => verdict,
+                Err(_) => None,
+            }
+        }
         Err(_) => None,
     }
 }
 
+/// Memory may be wanting for the watches; None where the run is refused.
 fn watched(
     alloc: Global,
     image: &Image,
