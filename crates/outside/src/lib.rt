@@ -25,11 +25,13 @@ mod read;
 mod sink;
 mod standard;
 mod write;
+mod writer;
 
 pub use disk::{DiskFiles, read_once};
 pub use errors::{Failed, ReadError, WriteError};
 pub use files::Files;
 pub use read::read_all;
 pub use sink::Sink;
-pub use standard::{StdSink, flush_once, write_once};
+pub use standard::StdSink;
 pub use write::write_all;
+pub use writer::{flush_once, put_to, write_once, write_to};
