@@ -1,13 +1,40 @@
 //! The top call under watches of its caller's.
 
+ghost use Rattle.std.specs.Prelude.{◌≡◌, None, map, replicate, IfOk};
+ghost use Rattle.run_answers.specs.Answers.{four_kinds};
+
 use crate::calls::{sink, two_files, words_of};
 use crate::code_tests::{RECURSION, RECURSION_CODE};
 use elf_write::file_of_words;
 use outside_fakes::{MemFiles, MemSink};
-use run_watch::{CodeWatch, RelationWatch, ReturnWatch, StoreWatch};
+use run_watch::{CodeWatch, RelationWatch, ReturnWatch, StoreWatch, Watch};
 use std::alloc::{AllocError, Global};
 use std::test::Fail;
-use top_call::{affine_main, in_order};
+use top_call::affine_main;
+
+/// The watches as a list.
+fn in_order(
+    alloc: Global,
+    relations: Box<dyn Watch>,
+    stores: Box<dyn Watch>,
+    returns: Box<dyn Watch>,
+    code: Box<dyn Watch>,
+) -> Result<Vec<Box<dyn Watch>>, AllocError>
+    requires kinds { (kind_of relations ≡ 1) × (kind_of stores ≡ 2) × (kind_of returns ≡ 3) × (kind_of code ≡ 4) }
+    requires relations { state relations ≡ None }
+    requires stores { state stores ≡ None }
+    requires returns { state returns ≡ None }
+    requires code { state code ≡ None }
+    ensures kinds { IfOk result (λ watches. map (λ watch. kind_of watch) watches.items ≡ four_kinds) }
+    ensures fresh { IfOk result (λ watches. map (λ watch. state watch) watches.items ≡ replicate 4 None) }
+{
+    let mut watches = Vec::new(alloc);
+    watches.push(relations)?;
+    watches.push(stores)?;
+    watches.push(returns)?;
+    watches.push(code)?;
+    Ok(watches)
+}
 
 fn under_watches(
     alloc: Global,

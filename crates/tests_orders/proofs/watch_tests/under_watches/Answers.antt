@@ -1,6 +1,6 @@
 use Rattle.std.proofs.Common.{◌∙◌, refl}
 use denote.Param.Object.{read_made}
-use Rattle.top_call.specs.contracts.four_watches.in_order.dyn-1.{Members}
+use Rattle.tests_orders.specs.contracts.watch_tests.in_order.dyn-1.{Members}
 use Rattle.tests_orders.proofs.watch_tests.under_watches.OwnLists.{own-1, at-1-1, at-1-2, at-1-3, at-1-4}
 use Rattle.tests_orders.proofs.watch_tests.under_watches.Goals as goal
 
