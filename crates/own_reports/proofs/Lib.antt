@@ -1,0 +1,9 @@
+mod OneList
+mod OneImage
+mod OnePoints
+mod AddressesFit
+mod Truth
+mod Known
+mod Caused
+mod Apart
+mod Arrivals
