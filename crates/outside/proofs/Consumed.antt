@@ -1,5 +1,5 @@
 -- What a read gave of contents that are told.
-use Rattle.std.proofs.Common.{◌≡◌, ℕ, ◌<◌, ◌≤◌, ◌+◌, ◌-◌, ◌∙◌, List, [], Option, Some, None, length, take, drop, sym, ap, subst, arith, length-drop, length-take-le, take_at, drop_at, drop-drop}
+use Rattle.std.proofs.Common.{◌≡◌, ℕ, ◌<◌, ◌≤◌, ◌+◌, ◌-◌, ◌∙◌, List, Option, Some, None, length, take, drop, sym, ap, subst, arith, length-drop, length-take-le, take_at, drop_at, drop-drop}
 use Rattle.std.specs.Io.KnownBytes.{Consumes, IsAtEnd}
 use Rattle.outside.specs.Streams.{IsAt, IsReadAt}
 
