@@ -6,4 +6,8 @@ mod Truth
 mod Known
 mod Caused
 mod Apart
+mod OneStates
+mod OneCerts
+mod OneReport
+mod Alone
 mod Arrivals

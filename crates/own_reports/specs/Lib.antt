@@ -1,3 +1,4 @@
 pub mod Checked
 pub mod Reached
 pub mod Unrefused
+pub mod One

@@ -1,6 +1,7 @@
 //! What holds of own reports. Each function runs nothing; its contract is a law, and its body names the laws that it rests on.
 
 ghost use Rattle.own_reports.specs.Checked.{OwnReportsFailForCause, OwnRunsFailForCause};
+ghost use Rattle.own_reports.specs.One.{ReportsAreOne};
 ghost use Rattle.own_reports.specs.Reached.{RunsAreWhereRowsAre};
 ghost use Rattle.own_reports.specs.Unrefused.{ReportsAreUnrefused};
 
@@ -31,4 +32,12 @@ pub fn reports_are_unrefused()
     ensures { ReportsAreUnrefused }
 {
     lists_are_read_in_one_way();
+}
+
+/// A file and a list have one report, with one list of certificates.
+pub fn reports_are_one()
+    ensures { ReportsAreOne }
+{
+    lists_are_read_in_one_way();
+    reports_tell_of_runs();
 }
