@@ -17,6 +17,4 @@ mod report_tests;
 #[cfg(test)]
 mod symbol_tests;
 #[cfg(test)]
-mod watch_tests;
-#[cfg(test)]
 mod words_tests;
