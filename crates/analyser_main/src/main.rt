@@ -16,7 +16,7 @@
 //! ```
 #![tactic(auto)]
 
-use outside::{DiskFiles, StdSink};
+use outside::{DiskFiles, StdSink, behind_first};
 use std::process::ExitCode;
 use std::{env, io};
 pub use top_call::affine_main;
@@ -25,14 +25,11 @@ use top_call::run_with;
 fn main(rt: HostRuntime) -> ExitCode {
     let mut files = DiskFiles::new(rt.alloc(), &rt);
     let mut out = StdSink::new(&rt);
-    run_with(rt.alloc(), arguments(&rt), &mut files, &mut out)
+    run_with(rt.alloc(), behind_first(words(&rt)), &mut files, &mut out)
 }
 
-// The arguments after the program's name.
-fn arguments(rt: &HostRuntime) -> io::Result<Vec<String>> {
-    let mut words = Vec::new(rt.alloc());
-    for word in env::args(rt)?.skip(1) {
-        words.push(word)?;
-    }
+// The words of the call, the program's name first.
+fn words(rt: &HostRuntime) -> io::Result<Vec<String>> {
+    let words = env::args(rt)?.collect(rt.alloc())?;
     Ok(words)
 }

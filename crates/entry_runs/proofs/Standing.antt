@@ -13,7 +13,7 @@ use Rattle.entry_values.specs.declared.values.Value.TheVariants.{Is, Any}
 use Rattle.entry_values.specs.Values.{Means, FitsWord, unknown}
 use Rattle.entry_values.specs.declared.states.Slot.{Slot}
 use Rattle.entry_values.specs.declared.states.State.{State}
-use Rattle.entry_values.specs.States.{value_at, table_of, start, HasSlot, place}
+use Rattle.entry_values.specs.States.{value_at, values_of, start, HasSlot, place}
 use Rattle.entry_values.specs.declared.flow.Flow.TheVariants.{CallTo}
 use Rattle.entry_tables.specs.Tables.{Summary, Table, flow_of, kept_slots, value_returned, returned, HasRow}
 use Rattle.entry_values.specs.declared.values.Kind.TheVariants.{Callee}
@@ -86,14 +86,14 @@ written_other regs r w q other = by (r == 0)
 
 -- values by a function
 pub table_means : (entry regs : List ℕ) (f : ℕ → Value) (slots : List Slot) → ((r : ℕ) → r < 32 → Means entry (f r) (slice_index regs r))
-    → (r : ℕ) → Means entry (value_at (record { values = table_of f; slots = slots }) r) (slice_index regs r)
+    → (r : ℕ) → Means entry (value_at (record { values = values_of f; slots = slots }) r) (slice_index regs r)
 table_means entry regs f slots means r = elim (cases_lt r 32) [
   | inl within ↦
       subst (λ (v : Value). Means entry v (slice_index regs r))
       (sym (get_or-map-range_with_len f 0 32 r r unknown within (omega arith))) (means r within)
   | inr past ↦
       subst (λ (v : Value). Means entry v (slice_index regs r))
-      (sym (get_or_past (table_of f) r unknown (let n = length-map-range_with_len f 0 32 in omega arith))) tt
+      (sym (get_or_past (values_of f) r unknown (let n = length-map-range_with_len f 0 32 in omega arith))) tt
 ]
 
 -- at an entry, whatever the registers

@@ -10,7 +10,7 @@ use Rattle.rv_step.proofs.HartsKept.{step_keeps_hart}
 use Rattle.entry_values.specs.declared.values.Value.TheVariants.{Is, Any}
 use Rattle.entry_values.specs.Values.{Means, FitsWord, plus, unknown}
 use Rattle.entry_values.specs.declared.states.State.{State}
-use Rattle.entry_values.specs.States.{table_of, start, value_at, place}
+use Rattle.entry_values.specs.States.{values_of, start, value_at, place}
 use Rattle.entry_values.specs.Transfers.{is_below}
 use Rattle.std.specs.Prelude.{if◌then◌else◌}
 use Rattle.opaque_words.specs.declared.rows.Row.{Row}
@@ -73,7 +73,7 @@ module _ (t : Table) (code : ℕ → Option Fetched) (settled : IsSettled t) (re
     words = λ r. elim (cases_lt r 32) [
       | inl within ↦ subst FitsWord (sym (get_or-map-range_with_len (λ k. Is k 0) 0 32 r r unknown within (omega arith))) (omega arith)
       | inr beyond ↦
-          subst FitsWord (sym (get_or_past (table_of (λ k. Is k 0)) r unknown (let n = length-map-range_with_len (λ k. Is k 0) 0 32 in omega arith))) tt
+          subst FitsWord (sym (get_or_past (values_of (λ k. Is k 0)) r unknown (let n = length-map-range_with_len (λ k. Is k 0) 0 32 in omega arith))) tt
     ];
   }
 

@@ -4,6 +4,7 @@
 --                       last frame, the address of its call for one that waits
 --   begun p m           the frame of the run's first moment
 --   moved f a           the frame, gone on to a
+--   ended a frames      the frame before one that has ended goes on at a
 --   turned_by flow n f rest, turned t n frames
 --                       the frames after a step to the machine n, whose last frame f was at this flow
 --   frames_at t p run i the frames at the moment i of a run from p

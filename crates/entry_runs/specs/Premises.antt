@@ -2,14 +2,21 @@
 -- rest.
 --
 --   Own                    the place of a store: an offset from the entry's sp, and a width
+--   own_at w v             w bytes at the address v, where that is known by the entry's sp
 --   own_of instr s         the place of a store in the own frame, where the state tells it
+--   own_opaque row s       the place of what an opaque instruction may change
+--   own_by row line some   that of what stands at a point
 --   own_store t f          that of the instruction at which the frame is
 --   is_own_below o         it is there, and lies below the entry's sp
+--   slots_left row         the slots that a call under this state leaves
 --   waiting_slots t g      the slots of a frame that waits: those that its call leaves
 --   Spares entry slots m n the step changes no byte of a slot that claims something
+--   AllSpared, AllAbove    so for the slots of each frame that waits; LiesAbove for each
 --   IsPlaced entry o       a place at the offset o, below sp, doesn't wrap: there is as much room below sp
 --   LiesAbove a entry slots
 --                          each slot that claims something lies at or above the address a
+--   OneOf b A B            A where b is true, else B
+--   StackAt, StackBy       what a call keeps of the stack, by the value of sp, and by the state
 --   StackStays             at a call, sp is at most the address of each slot of a frame that waits. Where the state knows sp,
 --                          it is enough that sp doesn't wrap: there is as much room below sp at the entry
 --   KeepsStep              what is fetched at pc is what the code has there, and slots are kept
@@ -18,6 +25,7 @@
 --                          stack_below a store in the own frame below sp doesn't wrap
 --   Among, MayReturn       an address is one of some; the call to which a frame goes back is one that is taken to return
 --   ComesBack, GoesOut     what is taken of code that isn't known
+--   KeepsAt frames         what the step keeps, by the last frame's flow
 --   KeepsBy flow           what the step keeps, by the flow of the point: a call keeps the stack, too; no step leaves
 use Rattle.std.specs.Prelude.{◌≡◌, ◌≢◌, ◌⊎◌, ℕ, ◌+◌, ◌%◌, ◌^◌, ◌<◌, ◌≤◌, ◌==◌, Bool, true, false, List, [], ◌∷◌, slice_index, Option, None, Some, if◌then◌else◌}
 use Rattle.elf_image.specs.declared.fetched.Fetched.{Fetched}

@@ -1,14 +1,19 @@
 -- What holds of runs under a settled table.
 --
 --   IsRunFrom t p run n     a run from the procedure p, whose first n steps each go by the flow of their point
+--   GoesBy flow             a step by this flow
 --   Goes                    a step of the machine; or, where the flow is left to code that isn't known, any machine
 --   KeepsUpTo               the first n steps keep the premises
 --   Waits t memory q regs g the frame g waits at its call, which opened the procedure q, with these registers: what its state says
 --                           of registers holds of them, and what it says of the slots that its call leaves holds of memory
+--   AllWait                 so for each frame and the one before it
+--   LastIsDescribed         the last frame is where the machine is, and its row describes it
 --   IsDescribed             the last frame's state describes the machine, and the others wait
 --   RunsAreDescribed        a run that keeps the premises up to a moment is described at each moment up to it, as long as its
 --                           first frame is open
 --   Ends flow               a frame ends there
+--   Restores t n f          at n the frame f has gone home: pc is the word that ra had at its entry, with bit 0 cleared; its
+--                           summary says that it returns; and the registers that it keeps are as they were
 --   KeptRegistersAreKept    at each end of a frame in such a run, to the address that the frame's ra had at its entry, each register
 --                           that the summary keeps has the word that it had there
 use Rattle.std.specs.Prelude.{◌≡◌, ◌≢◌, ℕ, suc, ◌<◌, ◌≤◌, true, List, [], ◌∷◌, Contains, slice_index, Option, Some}

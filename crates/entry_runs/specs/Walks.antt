@@ -5,6 +5,10 @@
 --   KeepsWalk t entry p s a m n
 --                             what a step of the frame keeps, under the way's own state: its slots may be more than those of
 --                             the table, and they are to be spared too
+--   GuardBy, GuardAt, Guards
+--                             each step of a run, by its flow, that isn't a store below its own frame's entry spares these slots,
+--                             and at each call in it sp is at most their addresses
+--   frame_of q registers a    a frame
 --   MadeCall t code q m n
 --                             from m a procedure was called, and at n its frame has ended: between them lies a run from q that
 --                             keeps the premises
@@ -12,6 +16,7 @@
 --                             a frame of p, opened with these registers, has gone to the address a, where the way's state is s
 --                             and the machine is m. Calls are stepped over: at a call sp is at most the addresses of the slots
 --                             that it leaves, its steps guard them, and its target is a procedure of the table
+--   IsThere entry a s m       the machine is at a, and the state describes it
 --   WaysAreDescribed          the way's state describes the machine
 use Rattle.std.specs.Prelude.{◌≡◌, ℕ, suc, ◌<◌, true, false, List, [], ◌∷◌, Contains, length, Option, None, Some}
 use Rattle.elf_image.specs.declared.fetched.Fetched.{Fetched}

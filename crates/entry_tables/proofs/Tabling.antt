@@ -5,7 +5,7 @@ use Rattle.std.proofs.lemmas.List.{same_lists}
 use Rattle.std.proofs.lemmas.List.FromFn.{get_or-map-range_with_len, length-map-range_with_len}
 use Rattle.entry_values.specs.declared.values.Value.{Value}
 use Rattle.entry_values.specs.Values.{unknown}
-use Rattle.entry_values.specs.States.{table_of}
+use Rattle.entry_values.specs.States.{values_of}
 
 set_same : (xs : List Value) (n : ℕ) (v d : Value) → n < length xs → get_or (slice_set xs n v) n d ≡ v
 set_same [] n v d within = absurd (omega (arith, within))
@@ -38,9 +38,9 @@ put_more values m r v f wide same small is below k within = elim (cases_lt k r) 
       subst (λ (n : ℕ). get_or (slice_set values m v) n unknown ≡ v) at (set_same values m v unknown (omega (arith, same, small, wide))) ∙ is ∙ ap f there
 ]
 
-pub ends : (values : List Value) (f : ℕ → Value) (r : ℕ) → length values ≡ 32 → ((k : ℕ) → k < r → get_or values k unknown ≡ f k) → 32 ≤ r → values ≡ table_of f
+pub ends : (values : List Value) (f : ℕ → Value) (r : ℕ) → length values ≡ 32 → ((k : ℕ) → k < r → get_or values k unknown ≡ f k) → 32 ≤ r → values ≡ values_of f
 ends values f r wide all past =
     let long = length-map-range_with_len f 0 32 in
-    same_lists values (table_of f) (wide ∙ sym long) (λ k d h.
+    same_lists values (values_of f) (wide ∙ sym long) (λ k d h.
     let small : k < 32 = omega (arith, h, wide) in
     any_default values k d unknown h ∙ all k (omega (arith, small, past)) ∙ sym (get_or-map-range_with_len f 0 32 k k d small (omega arith)))

@@ -2,11 +2,14 @@
 --
 --   listed keeps, told         the registers that are kept, by a list; the summary that is told
 --   guess_at, is_silent        the targets taken for the jump at an address; whether a call is taken not to return
+--   opaque_of at               the row of an opaque word that is fetched
 --   opaque_at image a          the row of the opaque word that the image has at a
 --   IsLineAt image a line      the instruction that the image has at a, with its length
 --   IsLined image point        a point has the line that the image has there
 --   AreLined image points      each has
 --   point_at, told_at          the first point of an address of a procedure; what is told first of a procedure
+--   line_of, is_marked         its line, and whether it is marked, where there is one
+--   summary_of k               the summary that is told, where something is
 --   table_of image rows        the table. A procedure of which nothing is told doesn't return, and keeps nothing
 --   IsBefore, Ascend           points ascend strictly, by procedure and by address
 --   AscendTold                 so do procedures

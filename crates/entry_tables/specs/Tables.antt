@@ -6,6 +6,7 @@
 --                            marked; the summaries; which words of the code are opaque, and where it has words at all;
 --                            the targets that are taken for jumps, and the calls that are taken not to return (stays_out)
 --   next_of a line           the address behind an instruction
+--   opaque_flow              the flow of a word that is no instruction of RV64IM
 --   flow_by                  the flow at an address, by what is there: none that is followed where the point is marked
 --   flow_of t p a            the flow at an address of a procedure: no step where no state or no code is there
 --   not_below k slots        the slots at k or above, where k lies below the entry's sp
@@ -37,7 +38,7 @@ use Rattle.entry_values.specs.declared.states.State.{State}
 use Rattle.entry_values.specs.declared.flow.Flow.{Flow}
 use Rattle.entry_values.specs.declared.flow.Flow.TheVariants.{On, ByTable, CallTo, Foreign, Past, Return, TailOut, Leave, Stuck, Halt}
 use Rattle.entry_values.specs.Values.{FitsWord}
-use Rattle.entry_values.specs.States.{value_at, table_of, start, KnowsNoMore}
+use Rattle.entry_values.specs.States.{value_at, values_of, start, KnowsNoMore}
 use Rattle.entry_values.specs.Opaque.{opaque_state}
 use Rattle.entry_values.specs.Flows.{flow_under}
 
@@ -88,7 +89,7 @@ value_returned keeps s a next r =
     if r == 0 then Is 0 0 else if keeps r then (if r == 1 then Is 0 next else value_at s r) else Any a Callee
 
 abbrev pub returned : Summary → State → ℕ → ℕ → State
-returned k s a next = record { values = table_of (value_returned k.keeps s a next); slots = kept_slots (value_at s 2) s.slots }
+returned k s a next = record { values = values_of (value_returned k.keeps s a next); slots = kept_slots (value_at s 2) s.slots }
 
 abbrev pub foreign : Summary
 foreign = record { returns = true; keeps = by_convention }

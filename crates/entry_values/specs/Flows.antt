@@ -7,9 +7,11 @@
 --                                code that isn't known, which returns there; Leave: by ra, with another word; Stuck: a jump
 --                                that isn't resolved, or a word that means nothing; Halt: no step
 --   is_entry r v                 it is the entry's word of r
+--   is_zero z                    it is 0
 --   linked rd target next s      a jump to a known address, which is a call where rd is ra
 --   tail_flow v s                a jump to v whose targets aren't known. One to the word that t0 had at the entry goes back
 --                                to who called by t0, and that is no tail call
+--   jump_out guess s v           it, or one to the targets that are taken for it
 --   unresolved                   a jump to an address that isn't known, v
 --   jump_flow                    a jump by a register, to the address v
 --   flow_under instr guess pc next s

@@ -17,10 +17,13 @@ pub mod Reducing
 pub mod Growing
 pub mod Lengths
 pub mod Included
-pub mod Extending
-pub mod Trailing
-pub mod Units
-pub mod Tails
+pub mod Overlaps
+pub mod Turned
+pub mod Pivots
+pub mod Settling
+pub mod Duals
+pub mod Filling
+pub mod Mirroring
 pub mod Annihilating
 pub mod Insertion
 pub mod Existence

@@ -2,5 +2,6 @@ pub mod Remainders
 pub mod Inserts
 pub mod Laws
 pub mod Annihilators
-pub mod Products
+pub mod Mirrors
+pub mod Relations
 pub mod Whole

@@ -53,6 +53,20 @@ impl<const N: usize> Basis<N> {
         }
     }
 
+    /// The basis of rows that are one.
+    pub(crate) fn from_rows(rows: Vec<Row<N>>) -> Basis<N>
+        requires some { 1 ≤ N }
+        requires within { N ≤ 512 }
+        requires basis { IsLeadingBasis N rows.items }
+        ensures { result ≡ rows.entry.items }
+    {
+        Basis {
+            rows,
+            whole: Row::zero(),
+            looked: false,
+        }
+    }
+
     /// What every basis keeps. A caller sees a basis as a list alone, so it calls this where it needs these facts.
     pub fn known(&self)
         ensures basis { IsLeadingBasis N self.now }

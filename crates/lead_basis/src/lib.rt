@@ -17,9 +17,11 @@
 mod annihilator;
 mod basis;
 mod meaning;
+mod mirror;
 mod multiples;
 mod place;
 mod reduce;
+mod relations;
 mod steps;
 mod whole;
 

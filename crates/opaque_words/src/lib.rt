@@ -3,7 +3,7 @@
 //!
 //! The crate promises that [`opaque_row`] is the table of `specs/Table.antt`: for a word, the one register
 //! that its instruction may change and the bytes that it may, or that it makes no step. It is more than the
-//! instruction does. Words of RV64IM have no row, nor have those that aren't listed.
+//! instruction does. A word that isn't listed has no row; the table lists none of RV64IM.
 //!
 //! ```text
 //! opaque_row(0x30002573, 4) // csrr a0, mstatus: a0 may change, no bytes do

@@ -1,55 +1,27 @@
-//! The system's files. They are trusted: no clause tells what they hold.
-ghost use Rattle.std.specs.Prelude.{◌≡◌, ◌≤◌, ℕ, List, Option, None, length, IfOk};
+//! The system's files. That they are readers of what they hold is trusted: no clause tells what that is.
+ghost use Rattle.std.specs.Prelude.{◌≡◌, ℕ, List, Option, None};
 
 use crate::errors::Failed;
 use crate::files::Files;
+use crate::reader::{Kept, Opens, read_counted};
 use std::alloc::Global;
 use std::fs::File;
-use std::io::{ErrorKind, Read};
 use std::marker::Model;
 use std::{io, rt};
 
-/// The bytes that are read at once on the way to a place.
-const STEP: u64 = 4096;
-
-/// One read into `into`, tried again where the system interrupted it.
-pub fn read_once<F: Read>(file: &mut F, into: &mut [u8]) -> io::Result<usize>
-    ensures { IfOk result (λ n. n ≤ length into.new) }
-{
-    for _ in 0..u64::MAX {
-        match file.read(into) {
-            Err(error) if error.kind() == ErrorKind::Interrupted => {}
-            other => return other,
-        }
-    }
-    Err(io::Error::from(ErrorKind::Interrupted))
-}
-
-/// A file that is open, with its name and the place where it stands.
+/// What opens the system's files.
 #[derive(Drop)]
-struct Open<F> {
-    name: String,
-    file: F,
-    at: u64,
+struct System<R: Drop> {
+    rt: R,
 }
 
-impl<F: Read> Open<F> {
-    /// Reads on to the place `at`, which isn't before the file's own, or to the end, and then into `into`.
-    fn read_at(&mut self, at: u64, into: &mut [u8]) -> io::Result<usize>
-        ensures { IfOk result (λ n. n ≤ length into.new) }
-    {
-        let mut passed = [0u8; STEP as usize];
-        while self.at < at {
-            let most = STEP.min(at - self.at) as usize;
-            let n = read_once(&mut self.file, &mut passed[..most])?;
-            if n == 0 {
-                return Ok(0);
-            }
-            self.at += n as u64;
-        }
-        let n = read_once(&mut self.file, into)?;
-        self.at = self.at.saturating_add(n as u64);
-        Ok(n)
+impl<R: rt::Files + Drop> Opens for System<R> {
+    type File = R::File;
+
+    ghost contents = { λ _ _. None };
+
+    fn open(&self, name: &str) -> io::Result<R::File> {
+        File::open(&self.rt, name)
     }
 }
 
@@ -60,8 +32,8 @@ impl<F: Read> Open<F> {
 #[derive(Drop)]
 pub struct DiskFiles<R: rt::Files + Drop> {
     alloc: Global,
-    rt: R,
-    open: Option<Open<R::File>>,
+    system: System<R>,
+    kept: Option<Kept<R::File>>,
     faults: u64,
 }
 
@@ -78,35 +50,11 @@ impl<R: rt::Files + Drop> DiskFiles<R> {
     {
         DiskFiles {
             alloc,
-            rt,
-            open: None,
+            system: System { rt },
+            kept: None,
             faults: 0,
         }
     }
-}
-
-/// Reads from `place`, where this file is open there and doesn't stand behind `at`, or else anew.
-fn read_open<R: rt::Files>(
-    alloc: Global,
-    rt: &R,
-    place: &mut Option<Open<R::File>>,
-    name: &str,
-    at: u64,
-    into: &mut [u8],
-) -> io::Result<usize>
-    ensures { IfOk result (λ n. n ≤ length into.new) }
-{
-    let mut open = match place.take() {
-        Some(open) if at > 0 && open.at <= at && open.name.as_str() == name => open,
-        _ => Open {
-            name: String::from_str(alloc, name)?,
-            file: File::open(rt, name)?,
-            at: 0,
-        },
-    };
-    let n = open.read_at(at, into)?;
-    *place = Some(open);
-    Ok(n)
 }
 
 impl<R: rt::Files + Drop> Files for DiskFiles<R> {
@@ -115,12 +63,7 @@ impl<R: rt::Files + Drop> Files for DiskFiles<R> {
     ghost faults = { λ d _. d };
 
     fn read(&mut self, name: &str, at: u64, into: &mut [u8]) -> Result<usize, Failed> {
-        match read_open(self.alloc, &self.rt, &mut self.open, name, at, into) {
-            Ok(n) => Ok(n),
-            Err(_) => {
-                self.faults = self.faults.saturating_add(1);
-                Err(Failed)
-            }
-        }
+        let (kept, faults) = (&mut self.kept, &mut self.faults);
+        read_counted(self.alloc, &self.system, kept, faults, name, at, into)
     }
 }

@@ -7,9 +7,12 @@
 //! `read_all` gives the whole contents of a file or says why not, and `write_all` appends a whole text or
 //! says that a put failed, after which a prefix of the text stands in the sink.
 //!
-//! Files and sinks stand here in one kind, the system's own (`DiskFiles`, `StdSink`). What the system's files
-//! hold, and whether standard output shows what was written, is left to the system: of these, only the
-//! counts are proved. Files and sinks in memory, which tests take, stand in a crate above.
+//! `DiskFiles` and `StdSink` are the system's own. Both are made of functions over any readers and writers,
+//! `read_counted` and `put_to`, which say what is read and what is written where readers and writers tell it.
+//! What is left to the system is that its files are such readers of what they hold, and that its standard
+//! output is such a writer. Files and sinks in memory, which tests take, stand in a crate above.
+//!
+//! `behind_first` gives all words of a call but the program's name.
 //!
 //! ```text
 //! let mut files = DiskFiles::new(alloc, &rt);
@@ -22,14 +25,20 @@ mod disk;
 mod errors;
 mod files;
 mod read;
+mod reader;
 mod sink;
 mod standard;
+mod words;
 mod write;
+mod writer;
 
-pub use disk::{DiskFiles, read_once};
+pub use disk::DiskFiles;
 pub use errors::{Failed, ReadError, WriteError};
 pub use files::Files;
 pub use read::read_all;
+pub use reader::{Kept, Opens, read_counted, read_once};
 pub use sink::Sink;
-pub use standard::{StdSink, flush_once, write_once};
+pub use standard::StdSink;
+pub use words::behind_first;
 pub use write::write_all;
+pub use writer::{flush_once, put_to, write_once, write_to};

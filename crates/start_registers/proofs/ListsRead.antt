@@ -1,7 +1,7 @@
 -- Items that are read one after the other.
 use Rattle.std.proofs.Common.{◌≡◌, ◌∙◌, ℕ, ◌+◌, ◌<◌, Bool, true, false, List, [], ◌∷◌, length, take, get_or}
 use Rattle.std.proofs.Common.{replicate, slice_set, get_or-take, refl, sym, ap, subst, Bor, suc, arith}
-use Rattle.std.proofs.lemmas.List.{take_more, get_or-map, length-take}
+use Rattle.std.proofs.lemmas.List.{take_more, get_or-map, length-take, length-set}
 use Rattle.start_registers.specs.Settings.{texts_of, AreRegistersOf, IsSet, IsSettingList, Sets}
 use Rattle.start_registers.proofs.Tables.{IsTable, table_start, table_push, list_push}
 
@@ -16,15 +16,15 @@ text_at : (items : List (Bor (List ℕ))) (i : ℕ) (d : Bor (List ℕ)) (e : Li
     → get_or (texts_of items) i e ≡ (get_or items i d).now
 text_at items i d e below = get_or-map (λ item. item.now) items i d e below
 
-registers_are : (items : List (List ℕ)) (regs : List ℕ) → IsSettingList items → IsTable (λ w. w) 0 items regs
+registers_are : (items : List (List ℕ)) (regs : List ℕ) → IsSettingList items → length regs ≡ 32 → IsTable (λ w. w) 0 items regs
     → AreRegistersOf items regs
-registers_are items regs list table = record { list = list; named = table.named; others = table.others }
+registers_are items regs list count table = record { list = list; count = count; named = table.named; others = table.others }
 
 table_is : (items : List (List ℕ)) (regs : List ℕ) → AreRegistersOf items regs → IsTable (λ w. w) 0 items regs
 table_is items regs are = record { named = are.named; others = are.others }
 
 pub no_registers : AreRegistersOf [] (replicate 32 0)
-no_registers = registers_are [] (replicate 32 0) none (table_start (λ w. w) 0)
+no_registers = registers_are [] (replicate 32 0) none refl (table_start (λ w. w) 0)
   where
     none : IsSettingList []
     none = record { each = λ k d below. absurd (omega arith); once = λ i j d before below. absurd (omega arith) }
@@ -56,13 +56,14 @@ module _ (items : List (Bor (List ℕ))) (i : ℕ) (d : Bor (List ℕ)) (below :
       fresh : (v : ℕ) → IsSet (take i (texts_of items)) r v → ⊥
       fresh v set = let bad : true ≡ false = sym (marked.named r v set) ∙ off in absurd cc
 
-      pub registers_more : (regs : List ℕ) → AreRegistersOf (take i (texts_of items)) regs → r < length regs
+      pub registers_more : (regs : List ℕ) → AreRegistersOf (take i (texts_of items)) regs → r < 32
           → AreRegistersOf (take (i + 1) (texts_of items)) (slice_set regs r w)
       registers_more regs are inside =
           rw (take_more (texts_of items) i [] within, text_at items i d [] below)
           (registers_are _ _ (list_push (take i (texts_of items)) (get_or items i d).now r w sets fresh are.list)
+          (length-set regs r w ∙ are.count)
           (table_push (take i (texts_of items)) (get_or items i d).now r w sets fresh (λ w. w) 0 regs
-          (table_is (take i (texts_of items)) regs are) inside))
+          (table_is (take i (texts_of items)) regs are) (omega (arith, are.count, inside))))
 
       pub marks_more : r < length marks → IsMarked (take (i + 1) (texts_of items)) (slice_set marks r true)
       marks_more inside =

@@ -9,8 +9,8 @@
 --   Sets item r w               the item is `name=word`: the name is one of register r, which isn't zero, and the word is w
 --   IsSet items r w             some item sets register r to the word w
 --   IsSettingList items         each item sets a register, and no two set the same one
---   AreRegistersOf items regs   the items are such a list; each register has the word that an item sets it to, and 0 where
---                               none does
+--   AreRegistersOf items regs   the items are such a list, and these are 32 words; each register has the word that an item
+--                               sets it to, and 0 where none does
 --   IsRegistersOf text regs     the registers of the text's items, or None where these are no such list
 --   IsStart text regs           the same of a text that may be left out: without it all registers are 0
 use Rattle.std.specs.Prelude.{◌≡◌, ◌≢◌, ℕ, Bool, ◌<◌, ◌≤◌, ◌^◌, ◌==◌, List, ◌∷◌, ◌++◌, Option, Some, None}
@@ -57,6 +57,7 @@ pub record IsSettingList (items : List (List ℕ)) : Type 0 where
 
 pub record AreRegistersOf (items : List (List ℕ)) (regs : List ℕ) : Type 0 where
   pub list : IsSettingList items
+  pub count : length regs ≡ 32
   pub named : (r w : ℕ) → IsSet items r w → slice_index regs r ≡ w
   pub others : (r : ℕ) → r < 32 → ((w : ℕ) → IsSet items r w → ⊥) → slice_index regs r ≡ 0
 

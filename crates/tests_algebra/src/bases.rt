@@ -59,15 +59,12 @@ const INSERTIONS: [Insertion; 21] = [
 fn has_rows<const N: usize>(basis: &Basis<N>, expected: &[[u64; N]]) -> bool {
     basis.known();
     let rows = basis.rows();
-    if rows.len() != expected.len() {
-        return false;
-    }
-    for (row, words) in rows.iter().zip(expected) {
-        if *row != Row::from_words(words) {
+    for (i, words) in expected.iter().enumerate() {
+        if rows.get(i) != Some(&Row::from_words(words)) {
             return false;
         }
     }
-    true
+    rows.len() == expected.len()
 }
 
 fn pairs<L: Ledger>(alloc: Global, blank: Blank) -> Result<bool, Memory>

@@ -3,7 +3,7 @@
 ghost use Rattle.std.specs.Prelude.{◌≡◌, length};
 
 use crate::small_programs::{EdgePlan, LOOP, Plan, program};
-use affine_prog::well_formed;
+use affine_prog::{Proc, well_formed};
 use block_program::{Blocks, contract};
 use lead_basis::Memory;
 use std::alloc::Global;
@@ -12,7 +12,23 @@ use std::alloc::Global;
 const TWO_CALLS: Plan = Plan {
     width: 0,
     registers: 0,
-    procs: &[(0, 17, 0), (5, 18, 0), (15, 19, 0)],
+    procs: &[
+        Proc {
+            entry: 0,
+            exit: 17,
+            slots: 0,
+        },
+        Proc {
+            entry: 5,
+            exit: 18,
+            slots: 0,
+        },
+        Proc {
+            entry: 15,
+            exit: 19,
+            slots: 0,
+        },
+    ],
     nodes: 20,
     owners: &[0, 0, 0, 0, 0, 1, 1, 1, 1, 1, 1, 1, 1, 1, 1, 2, 2, 0, 1, 2],
     edges: &[

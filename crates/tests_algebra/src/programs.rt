@@ -12,7 +12,18 @@ use std::alloc::{AllocError, Global};
 const CALL: Plan = Plan {
     width: 2,
     registers: 0b01,
-    procs: &[(0, 1, 0), (2, 3, 0b10)],
+    procs: &[
+        Proc {
+            entry: 0,
+            exit: 1,
+            slots: 0,
+        },
+        Proc {
+            entry: 2,
+            exit: 3,
+            slots: 0b10,
+        },
+    ],
     nodes: 4,
     owners: &[0, 0, 1, 1],
     edges: &[
@@ -51,7 +62,18 @@ const BROKEN: [Plan; 7] = [
         ..CALL
     },
     Plan {
-        procs: &[(0, 1, 0), (2, 1, 0b10)],
+        procs: &[
+            Proc {
+                entry: 0,
+                exit: 1,
+                slots: 0,
+            },
+            Proc {
+                entry: 2,
+                exit: 1,
+                slots: 0b10,
+            },
+        ],
         ..CALL
     },
 ];
@@ -89,11 +111,20 @@ fn broken_plans_are_seen(alloc: Global) -> Result<bool, AllocError> {
     Ok(true)
 }
 
+/// Whether a program is well formed with one more edge.
+fn is_formed_with(
+    alloc: Global,
+    program: &mut Program,
+    plan: &EdgePlan,
+) -> Result<bool, AllocError> {
+    program.edges.push(edge(alloc, plan)?)?;
+    Ok(well_formed(program))
+}
+
 fn breaking_edges_are_seen(alloc: Global) -> Result<bool, AllocError> {
     for plan in BREAKING.iter() {
         let mut program = program(alloc, &CALL)?;
-        program.edges.push(edge(alloc, plan)?)?;
-        if well_formed(&program) {
+        if is_formed_with(alloc, &mut program, plan)? {
             return Ok(false);
         }
     }
@@ -197,6 +228,16 @@ fn kept(a0: Words) -> Mat {
     map((a0, [1, 0, 0], 1))
 }
 
+fn depth_has_its_maps(program: &Program, depth: &Depth, callee: &Mat) -> bool {
+    let (between, inside, exit, from_5) = depth;
+    let opening = map(OPENED);
+    let path = along(program, 1, &opening, &[1, *between], callee);
+    let whole = along(program, 1, &opening, &[1, *between, 4], callee);
+    let image = apply(&kept(*exit), &row([5, 9, 1]));
+    path == Some(kept(*inside)) && whole == Some(kept(*exit)) && image == row([*from_5, 5, 1])
+}
+
+/// Whether the maps of each depth are those of its row, where the depth before is called.
 fn depths_have_their_maps(
     alloc: Global,
     plan: &Plan,
@@ -206,16 +247,12 @@ fn depths_have_their_maps(
     if !well_formed(&program) {
         return Ok(false);
     }
-    let opening = map(OPENED);
     let mut callee = Mat::zero();
-    for (between, inside, exit, from_5) in depths {
-        let path = along(&program, 1, &opening, &[1, *between], &callee);
-        let whole = along(&program, 1, &opening, &[1, *between, 4], &callee);
-        callee = kept(*exit);
-        let image = apply(&callee, &row([5, 9, 1]));
-        if path != Some(kept(*inside)) || whole != Some(callee) || image != row([*from_5, 5, 1]) {
+    for depth in depths {
+        if !depth_has_its_maps(&program, depth, &callee) {
             return Ok(false);
         }
+        callee = kept(depth.2);
     }
     Ok(true)
 }

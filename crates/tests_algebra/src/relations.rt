@@ -34,15 +34,12 @@ const TWO: [Case; 3] = [
 /// Whether these are the rows.
 fn has_rows(basis: &Basis<17>, expected: &[[u64; 3]]) -> bool {
     let rows = basis.rows();
-    if rows.len() != expected.len() {
-        return false;
-    }
-    for (own, words) in rows.iter().zip(expected) {
-        if *own != row(*words) {
+    for (i, words) in expected.iter().enumerate() {
+        if rows.get(i) != Some(&row(*words)) {
             return false;
         }
     }
-    true
+    rows.len() == expected.len()
 }
 
 /// Whether the relations of the module of these rows are the expected ones.

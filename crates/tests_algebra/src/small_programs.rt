@@ -26,12 +26,12 @@ pub enum EdgePlan {
     Call(u32, u32, &'static [Put], u32),
 }
 
-/// A program. Its procedures are entry, exit and slots.
+/// A program.
 #[derive(Clone, Copy)]
 pub struct Plan {
     pub width: u32,
     pub registers: u16,
-    pub procs: &'static [(u32, u32, u16)],
+    pub procs: &'static [Proc],
     pub nodes: u32,
     pub owners: &'static [u32],
     pub edges: &'static [EdgePlan],
@@ -42,7 +42,11 @@ pub struct Plan {
 pub const LOOP: Plan = Plan {
     width: 1,
     registers: 1,
-    procs: &[(0, 4, 0)],
+    procs: &[Proc {
+        entry: 0,
+        exit: 4,
+        slots: 0,
+    }],
     nodes: 5,
     owners: &[0; 5],
     edges: &[
@@ -58,7 +62,18 @@ pub const LOOP: Plan = Plan {
 pub const RECURSION: Plan = Plan {
     width: 2,
     registers: 0b01,
-    procs: &[(0, 1, 0), (2, 5, 0b10)],
+    procs: &[
+        Proc {
+            entry: 0,
+            exit: 1,
+            slots: 0,
+        },
+        Proc {
+            entry: 2,
+            exit: 5,
+            slots: 0b10,
+        },
+    ],
     nodes: 6,
     owners: &[0, 0, 1, 1, 1, 1],
     edges: &[
@@ -131,23 +146,11 @@ fn edges_of(alloc: Global, plans: &[EdgePlan]) -> Result<Items<Edge>, AllocError
     Ok(edges)
 }
 
-fn procs_of(alloc: Global, procs: &[(u32, u32, u16)]) -> Result<Items<Proc>, AllocError> {
-    let mut all = Items::new(alloc);
-    for (entry, exit, slots) in procs {
-        all.push(Proc {
-            entry: *entry,
-            exit: *exit,
-            slots: *slots,
-        })?;
-    }
-    Ok(all)
-}
-
 pub fn program(alloc: Global, plan: &Plan) -> Result<Program, AllocError> {
     Ok(Program {
         width: plan.width,
         registers: plan.registers,
-        procs: procs_of(alloc, plan.procs)?,
+        procs: Items::from_slice(alloc, plan.procs)?,
         nodes: plan.nodes,
         owners: Items::from_slice(alloc, plan.owners)?,
         edges: edges_of(alloc, plan.edges)?,

@@ -3,7 +3,7 @@
 ghost use Rattle.std.specs.Prelude.{◌≡◌, ◌<◌, length};
 
 use crate::small_programs::{EdgePlan, Plan, Put, Words, program, row};
-use affine_prog::well_formed;
+use affine_prog::{Proc, Program, well_formed};
 use call_summaries::exits;
 use lead_basis::{Memory, Steps};
 use reach_modules::Reach;
@@ -16,7 +16,11 @@ use std::sync::ledger::{Blank, Ledger};
 const LOOP: Plan = Plan {
     width: 1,
     registers: 1,
-    procs: &[(0, 2, 0)],
+    procs: &[Proc {
+        entry: 0,
+        exit: 2,
+        slots: 0,
+    }],
     nodes: 3,
     owners: &[0; 3],
     edges: &[
@@ -30,7 +34,18 @@ const LOOP: Plan = Plan {
 const RECURSION: Plan = Plan {
     width: 2,
     registers: 0b01,
-    procs: &[(0, 2, 0), (3, 6, 0b10)],
+    procs: &[
+        Proc {
+            entry: 0,
+            exit: 2,
+            slots: 0,
+        },
+        Proc {
+            entry: 3,
+            exit: 6,
+            slots: 0b10,
+        },
+    ],
     nodes: 7,
     owners: &[0, 0, 0, 1, 1, 1, 1],
     edges: &[
@@ -95,7 +110,22 @@ fn are_divided(reached: &Reach, nodes: u32, table: &[Case]) -> bool
     true
 }
 
+/// Whether the states of a program are as the table says, where it is well formed.
 fn reaches<L: Ledger>(
+    alloc: Global,
+    program: &Program,
+    table: &[Case],
+    steps: &mut Steps<L>,
+) -> Result<bool, Memory> {
+    if !well_formed(program) {
+        return Ok(false);
+    }
+    let exits = exits(alloc, program, steps)?;
+    let reached = reach_by_exits(alloc, program, exits.bases(), steps)?;
+    Ok(are_divided(&reached, program.nodes, table))
+}
+
+fn are_reached<L: Ledger>(
     alloc: Global,
     plan: &Plan,
     table: &[Case],
@@ -105,21 +135,18 @@ fn reaches<L: Ledger>(
     requires parts { blank.parts ≡ L.parts }
     requires some { 0 < blank.parts }
 {
-    let Ok(program) = program(alloc, plan) else {
-        return Err(Memory);
-    };
-    if !well_formed(&program) {
-        return Ok(false);
-    }
     let mut steps = Steps::<L>::new(blank);
-    let exits = exits(alloc, &program, &mut steps)?;
-    let reached = reach_by_exits(alloc, &program, exits.bases(), &mut steps)?;
-    Ok(are_divided(&reached, program.nodes, table))
+    match program(alloc, plan) {
+        Ok(program) => reaches(alloc, &program, table, &mut steps),
+        Err(_) => Err(Memory),
+    }
 }
 
 #[test]
 fn states_that_reach_nodes(rt: HostRuntime) {
     let alloc = rt.alloc();
-    assert!(rt; reaches::<Brand>(alloc, &LOOP, &LOOP_BY_8, Blank::new(1)) == Ok(true));
-    assert!(rt; reaches::<Brand>(alloc, &RECURSION, &RECURSION_BY_8, Blank::new(1)) == Ok(true));
+    assert!(rt; are_reached::<Brand>(alloc, &LOOP, &LOOP_BY_8, Blank::new(1)) == Ok(true));
+    assert!(rt;
+        are_reached::<Brand>(alloc, &RECURSION, &RECURSION_BY_8, Blank::new(1)) == Ok(true)
+    );
 }

@@ -3,7 +3,7 @@
 ghost use Rattle.std.specs.Prelude.{◌≡◌, ◌<◌};
 
 use crate::small_programs::{EdgePlan, LOOP, MapWords, Plan, Put, RECURSION, Words, map, program};
-use affine_prog::well_formed;
+use affine_prog::{Program, well_formed};
 use call_summaries::{exits, summaries};
 use lead_basis::{Memory, Steps};
 use map_modules::MatBasis;
@@ -67,15 +67,12 @@ const ENDLESS_EXITS: [Case; 2] = [(0, &[]), (1, &[])];
 /// Whether these are the rows.
 fn has_rows(basis: &MatBasis, expected: &[MapWords]) -> bool {
     let rows = basis.rows();
-    if rows.len() != expected.len() {
-        return false;
-    }
-    for (row, words) in rows.iter().zip(expected) {
-        if *row != map(*words) {
+    for (i, words) in expected.iter().enumerate() {
+        if rows.get(i) != Some(&map(*words)) {
             return false;
         }
     }
-    true
+    rows.len() == expected.len()
 }
 
 /// Whether the reduced basis of a module has these rows.
@@ -110,26 +107,18 @@ fn are_spanned<L: Ledger>(
 
 fn has_levels<L: Ledger>(
     alloc: Global,
-    plan: &Plan,
+    program: &Program,
     table: &[Case],
-    blank: Blank,
-) -> Result<bool, Memory>
-    requires name { blank.name ≡ L.name }
-    requires parts { blank.parts ≡ L.parts }
-    requires some { 0 < blank.parts }
-{
-    let Ok(program) = program(alloc, plan) else {
-        return Err(Memory);
-    };
-    if !well_formed(&program) {
+    steps: &mut Steps<L>,
+) -> Result<bool, Memory> {
+    if !well_formed(program) {
         return Ok(false);
     }
-    let mut steps = Steps::<L>::new(blank);
-    let summaries = summaries(alloc, &program, &mut steps)?;
-    are_spanned(alloc, summaries.levels(), table, &mut steps)
+    let summaries = summaries(alloc, program, steps)?;
+    are_spanned(alloc, summaries.levels(), table, steps)
 }
 
-fn has_exits<L: Ledger>(
+fn levels_are<L: Ledger>(
     alloc: Global,
     plan: &Plan,
     table: &[Case],
@@ -139,29 +128,55 @@ fn has_exits<L: Ledger>(
     requires parts { blank.parts ≡ L.parts }
     requires some { 0 < blank.parts }
 {
-    let Ok(program) = program(alloc, plan) else {
-        return Err(Memory);
-    };
-    if !well_formed(&program) {
+    let mut steps = Steps::<L>::new(blank);
+    match program(alloc, plan) {
+        Ok(program) => has_levels(alloc, &program, table, &mut steps),
+        Err(_) => Err(Memory),
+    }
+}
+
+fn has_exits<L: Ledger>(
+    alloc: Global,
+    program: &Program,
+    table: &[Case],
+    steps: &mut Steps<L>,
+) -> Result<bool, Memory> {
+    if !well_formed(program) {
         return Ok(false);
     }
+    let exits = exits(alloc, program, steps)?;
+    are_spanned(alloc, exits.bases(), table, steps)
+}
+
+fn exits_are<L: Ledger>(
+    alloc: Global,
+    plan: &Plan,
+    table: &[Case],
+    blank: Blank,
+) -> Result<bool, Memory>
+    requires name { blank.name ≡ L.name }
+    requires parts { blank.parts ≡ L.parts }
+    requires some { 0 < blank.parts }
+{
     let mut steps = Steps::<L>::new(blank);
-    let exits = exits(alloc, &program, &mut steps)?;
-    are_spanned(alloc, exits.bases(), table, &mut steps)
+    match program(alloc, plan) {
+        Ok(program) => has_exits(alloc, &program, table, &mut steps),
+        Err(_) => Err(Memory),
+    }
 }
 
 #[test]
 fn levels_by_hand(rt: HostRuntime) {
     let alloc = rt.alloc();
-    assert!(rt; has_levels::<Brand>(alloc, &LOOP, &LOOP_LEVELS, Blank::new(1)) == Ok(true));
+    assert!(rt; levels_are::<Brand>(alloc, &LOOP, &LOOP_LEVELS, Blank::new(1)) == Ok(true));
     assert!(rt;
-        has_levels::<Brand>(alloc, &RECURSION, &RECURSION_LEVELS, Blank::new(1)) == Ok(true)
+        levels_are::<Brand>(alloc, &RECURSION, &RECURSION_LEVELS, Blank::new(1)) == Ok(true)
     );
 }
 
 #[test]
 fn exits_by_hand(rt: HostRuntime) {
     let alloc = rt.alloc();
-    assert!(rt; has_exits::<Brand>(alloc, &MUTUAL, &MUTUAL_EXITS, Blank::new(1)) == Ok(true));
-    assert!(rt; has_exits::<Brand>(alloc, &ENDLESS, &ENDLESS_EXITS, Blank::new(1)) == Ok(true));
+    assert!(rt; exits_are::<Brand>(alloc, &MUTUAL, &MUTUAL_EXITS, Blank::new(1)) == Ok(true));
+    assert!(rt; exits_are::<Brand>(alloc, &ENDLESS, &ENDLESS_EXITS, Blank::new(1)) == Ok(true));
 }

@@ -1,9 +1,10 @@
-//! The system's files and its standard output, and calls that are interrupted.
+//! The system's files and its standard output, and readers and writers that are interrupted, take little or fail.
 
-ghost use Rattle.std.specs.Prelude.{◌≤◌, IfOk};
+ghost use Rattle.std.specs.Prelude.{◌≤◌, IfOk, None};
 
 use outside::{
-    DiskFiles, Files, ReadError, StdSink, flush_once, read_all, read_once, write_all, write_once,
+    DiskFiles, Failed, Files, ReadError, Sink, StdSink, flush_once, put_to, read_all, read_once,
+    write_all, write_once,
 };
 use std::alloc::{AllocError, Global};
 use std::io::{ErrorKind, Read, Write};
@@ -207,6 +208,83 @@ fn tries_again(calls: usize) -> bool {
 #[test]
 fn tries_again_where_it_was_interrupted(rt: HostRuntime) {
     assert!(rt; tries_again(0) && tries_again(1) && tries_again(3));
+}
+
+/// A sink of a writer that takes 3 bytes a call, so often, and whose flush may fail.
+#[derive(Drop)]
+struct Narrow {
+    out: NarrowWriter,
+    faults: u64,
+}
+
+#[derive(Drop)]
+struct NarrowWriter {
+    taken: Vec<u8>,
+    calls: usize,
+    can_flush: bool,
+}
+
+impl Write for NarrowWriter {
+    fn write(&mut self, buf: &[u8]) -> io::Result<usize> {
+        if self.calls == 0 {
+            return Err(io::Error::from(ErrorKind::BrokenPipe));
+        }
+        self.calls -= 1;
+        let n = buf.len().min(3);
+        self.taken.extend_from_slice(&buf[..n])?;
+        Ok(n)
+    }
+
+    fn flush(&mut self) -> io::Result<()> {
+        if self.can_flush {
+            Ok(())
+        } else {
+            Err(io::Error::from(ErrorKind::BrokenPipe))
+        }
+    }
+}
+
+impl Sink for Narrow {
+    ghost written = { λ _. None };
+
+    ghost faults = { λ s. s.faults };
+
+    fn put(&mut self, bytes: &[u8]) -> Result<usize, Failed> {
+        put_to(&mut self.out, &mut self.faults, bytes)
+    }
+}
+
+/// Whether of these bytes just these are taken, and a fault is counted where they aren't all.
+fn takes(alloc: Global, calls: usize, can_flush: bool, bytes: &[u8], taken: &[u8]) -> bool {
+    let out = NarrowWriter {
+        taken: Vec::new(alloc),
+        calls,
+        can_flush,
+    };
+    let mut sink = Narrow { out, faults: 0 };
+    let is_whole = write_all(&mut sink, bytes).is_ok();
+    let faults = if is_whole { 0 } else { 1 };
+    is_whole == (bytes == taken) && sink.faults == faults && sink.out.taken.as_slice() == taken
+}
+
+#[test]
+fn puts_all_bytes_or_counts_a_fault(rt: HostRuntime) {
+    let text = b"0123456789".as_slice();
+    assert!(rt; takes(rt.alloc(), 4, true, text, text));
+    assert!(rt; takes(rt.alloc(), 2, true, text, b"012345"));
+    assert!(rt; takes(rt.alloc(), 4, false, text, b"012"));
+}
+
+fn takes_many(alloc: Global) -> bool {
+    match counting(alloc, 10_000) {
+        Ok(bytes) => takes(alloc, 10_000, true, &bytes, &bytes),
+        Err(_) => false,
+    }
+}
+
+#[test]
+fn puts_many_bytes(rt: HostRuntime) {
+    assert!(rt; takes_many(rt.alloc()));
 }
 
 #[test]

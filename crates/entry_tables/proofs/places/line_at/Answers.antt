@@ -1,5 +1,5 @@
 use Rattle.std.proofs.Common.{sym, ◌∙◌}
-use Rattle.entry_tables.proofs.Settling.{no_line}
+use Rattle.entry_tables.proofs.Reading.{no_line}
 use Rattle.entry_tables.proofs.places.line_at.Goals as goal
 
 pub returns-in-None-decode_with_length-clause-line : goal.returns-in-None-decode_with_length-clause-line

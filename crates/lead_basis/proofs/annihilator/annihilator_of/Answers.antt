@@ -1,23 +1,35 @@
-use Rattle.std.proofs.Common.{Contains}
+use Rattle.std.proofs.Common.{ℕ, ◌≤◌, List, Contains, subst, arith}
+use Rattle.row_modules.specs.Forms.{Annihilates}
+use Rattle.row_modules.specs.Modules.{IsCombination, Generates}
 use Rattle.row_modules.proofs.Laws.{generator}
+use Rattle.lead_basis.specs.Mirrors.{Mirrors}
 use Rattle.lead_basis.proofs.Leading.{basis_rows}
-use Rattle.lead_basis.proofs.Trailing.{rows_within}
-use Rattle.lead_basis.proofs.Annihilating.{annihilates_reduced}
 use Rattle.lead_basis.proofs.annihilator.annihilator_of.Goals as goal
 
-pub extended_basis-requires : goal.extended_basis-requires
-extended_basis-requires g c = rw c.rows.ensures (rows_within 17 c.args.source.now c.known.ensures.basis)
+pub from_rows-requires : goal.from_rows-requires
+from_rows-requires g c =
+    let m = subst (λ (x : List (List ℕ)). Mirrors c.args.visible x c.in_ok-mirrored.mirrored) c.rows.ensures c.in_ok-mirrored.ensures in
+    let some : 1 ≤ 17 = omega arith in
+    let within : 17 ≤ 512 = omega arith in
+    (omega arith, (omega arith, (some, (within, (c.in_ok-rows.ensures c.args.source.now m).basis))))
 
-pub returns-clause-module : goal.returns-clause-module
-returns-clause-module g c =
-    annihilates_reduced c.args.visible c.args.source.now c.rows.result.now c.in_ok-wide.wide c.in_ok-basis.basis c.reduced-reduced.result c.rows.ensures c.known.ensures.basis
-    c.in_ok-wide.ensures c.in_ok-basis.ensures c.reduced-reduced.ensures.same_module
+pub returns-clause-reduced : goal.returns-clause-reduced
+returns-clause-reduced g c =
+    let m = subst (λ (x : List (List ℕ)). Mirrors c.args.visible x c.in_ok-mirrored.mirrored) c.rows.ensures c.in_ok-mirrored.ensures in
+    rw c.from_rows.ensures (c.in_ok-rows.ensures c.args.source.now m).reduced
 
 pub returns-clause-generates : goal.returns-clause-generates
 returns-clause-generates g c =
-    let all = annihilates_reduced c.args.visible c.args.source.now c.rows.result.now c.in_ok-wide.wide c.in_ok-basis.basis c.reduced-reduced.result c.rows.ensures c.known.ensures.basis
-    c.in_ok-wide.ensures c.in_ok-basis.ensures c.reduced-reduced.ensures.same_module in
-    record {
-      inside = λ a h. (all a).0 (generator 17 (Contains c.reduced-reduced.result) (basis_rows 17 c.reduced-reduced.result c.known-2.ensures.basis) a h);
-      all = λ a n. (all a).1 n;
-    }
+    let m = subst (λ (x : List (List ℕ)). Mirrors c.args.visible x c.in_ok-mirrored.mirrored) c.rows.ensures c.in_ok-mirrored.ensures in
+    let s = c.in_ok-rows.ensures c.args.source.now m in
+    let rows = c.in_ok-rows.rows.items in
+    let all : Generates 17 c.in_ok-rows.rows.items (Annihilates c.args.visible (IsCombination 17 (Contains c.args.source.now))) = record {
+      inside = λ a h. (s.members a).0 (generator 17 (Contains c.in_ok-rows.rows.items) (basis_rows 17 c.in_ok-rows.rows.items s.basis) a h);
+      all = λ a n. (s.members a).1 n;
+    } in
+    rw c.from_rows.ensures all
+
+pub returns-clause-module : goal.returns-clause-module
+returns-clause-module g c =
+    let m = subst (λ (x : List (List ℕ)). Mirrors c.args.visible x c.in_ok-mirrored.mirrored) c.rows.ensures c.in_ok-mirrored.ensures in
+    rw c.from_rows.ensures (c.in_ok-rows.ensures c.args.source.now m).members

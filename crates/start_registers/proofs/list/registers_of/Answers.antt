@@ -8,7 +8,6 @@ pub loop-item-init : goal.loop-item-init
 loop-item-init c = record {
   made = no_registers;
   marked = table_start (λ w. true) false;
-  regs_wide = refl;
   named_wide = refl;
 }
 
@@ -27,15 +26,13 @@ loop-item-preserved c =
     let item = c.in-Some in
     let so_far = c.loop-item.invariant in
     let within = item.ensures.within in
-    let regs_wide = so_far.regs_wide in
     let named_wide = so_far.named_wide in
     record {
       made =
           registers_more c.args.items.now c.loop-item.item-index _ c.loop-item-test.true item.register item.word item.ensures.set
-          c.loop-item.named so_far.marked c.if-named-register.false c.loop-item.regs so_far.made (omega arith);
+          c.loop-item.named so_far.marked c.if-named-register.false c.loop-item.regs so_far.made (item.ensures.within);
       marked =
           marks_more c.args.items.now c.loop-item.item-index _ c.loop-item-test.true item.register item.word item.ensures.set
           c.loop-item.named so_far.marked c.if-named-register.false (omega arith);
-      regs_wide = length-set c.loop-item.regs item.register item.word ∙ regs_wide;
       named_wide = length-set c.loop-item.named item.register true ∙ named_wide;
     }

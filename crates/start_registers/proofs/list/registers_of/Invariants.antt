@@ -8,6 +8,5 @@ abbrev pub invariant-loop-item : goal.invariant-loop-item
 invariant-loop-item l = record {
   made : AreRegistersOf (take l.item-index (texts_of l.items)) l.regs;
   marked : IsMarked (take l.item-index (texts_of l.items)) l.named;
-  regs_wide : length l.regs ≡ 32;
   named_wide : length l.named ≡ 32;
 }

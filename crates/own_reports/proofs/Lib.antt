@@ -1,0 +1,13 @@
+mod OneList
+mod OneImage
+mod OnePoints
+mod AddressesFit
+mod Truth
+mod Known
+mod Caused
+mod Apart
+mod OneStates
+mod OneCerts
+mod OneReport
+mod Alone
+mod Arrivals

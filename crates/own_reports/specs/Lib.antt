@@ -1,0 +1,4 @@
+pub mod Checked
+pub mod Reached
+pub mod Unrefused
+pub mod One
