@@ -6,7 +6,8 @@ use Rattle.std.proofs.lemmas.List.{take_more, take-append-drop, get_or-map, leng
 use Rattle.std.proofs.lemmas.List.Elements.{All-push}
 use Rattle.std.proofs.lemmas.List.Quantifiers.{all_pairs_push}
 use Rattle.report_text.specs.declared.names.Name.{Name}
-use Rattle.affine_lift.specs.Tracking.{texts_of, AreNames, Breaks, IsFurther, IsIn, IsItemRefusal, Names, Scope}
+use Rattle.numeral_read.specs.Lists.{texts_of}
+use Rattle.affine_lift.specs.Tracking.{AreNames, Breaks, IsFurther, IsIn, IsItemRefusal, Names, Scope}
 use Rattle.refusals.specs.declared.track.TrackRefusal.{TrackRefusal}
 
 text_at : (items : List (Bor (List ℕ))) (i : ℕ) (d : Bor (List ℕ)) → i < length items → get_or (texts_of items) i [] ≡ (get_or items i d).now

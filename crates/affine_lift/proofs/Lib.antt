@@ -8,7 +8,6 @@ mod Formed
 pub mod PositionBits
 pub mod EffectsSeen
 pub mod Procedures
-mod Numerals
 mod NamesRead
 mod ItemsNamed
 pub mod StoresWrite

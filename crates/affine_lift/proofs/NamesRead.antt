@@ -7,7 +7,8 @@ use Rattle.elf_image.specs.declared.symbol.Symbol.{Symbol}
 use Rattle.rv_decode.specs.Registers.{register_of}
 use Rattle.report_text.specs.Names.{IsAllowedBelow}
 use Rattle.report_text.specs.declared.names.Name.{Name}
-use Rattle.affine_lift.specs.Tracking.{is_colon, HasColon, HasName, by_register, by_place, IsAddress, IsDistance, IsPlace, IsSlotText, Names, address, register, slot, symbol, value_of}
+use Rattle.numeral_read.specs.Reading.{IsAddress}
+use Rattle.affine_lift.specs.Tracking.{is_colon, HasColon, HasName, by_register, by_place, IsDistance, IsPlace, IsSlotText, Names, address, register, slot, symbol, value_of}
 use Rattle.affine_lift.proofs.FirstPlaces.{passes_first}
 
 pub colon_parts : (item : List ℕ) (r : Option (Bor (List ℕ) × Bor (List ℕ)))

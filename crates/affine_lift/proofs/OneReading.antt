@@ -9,15 +9,12 @@ use Rattle.report_text.specs.declared.names.Name.{Name}
 use Rattle.report_text.specs.declared.names.Name.TheVariants.{Slot}
 use Rattle.refusals.specs.declared.track.TrackRefusal.{TrackRefusal}
 use Rattle.refusals.specs.declared.track.TrackRefusal.TheVariants.{Memory}
-use Rattle.affine_lift.specs.Tracking.{HasName, IsAddress, IsDistance, IsIn, IsPlace, IsTracked, IsTrackRefusal, Names, Breaks, Scope, items_of, address, bad_item, bad_slot, by_place, by_register, empty, memory, no_such_procedure, register, repeated, slot, symbol, too_many, unknown_name}
+use Rattle.numeral_read.specs.Lists.{items_of}
+use Rattle.numeral_read.proofs.Addresses.{one_address}
+use Rattle.affine_lift.specs.Tracking.{HasName, IsDistance, IsIn, IsPlace, IsTracked, IsTrackRefusal, Names, Breaks, Scope, address, bad_item, bad_slot, by_place, by_register, empty, memory, no_such_procedure, register, repeated, slot, symbol, too_many, unknown_name}
 
 same_digits : (a b : ℕ) (xs ys : List ℕ) → a ∷ xs ≡ b ∷ ys → xs ≡ ys
 same_digits a b xs ys e = cc
-
-one_address : (text : List ℕ) (p q : ℕ) → IsAddress text p → IsAddress text q → p ≡ q
-one_address text p q h k =
-    let behind = same_digits 48 48 (120 ∷ h.digits) (120 ∷ k.digits) (sym h.text_is ∙ k.text_is) in
-    h.value ∙ ap (digits_value 16) (same_digits 120 120 h.digits k.digits behind) ∙ sym k.value
 
 one_place : (symbols : List Symbol) (text : List ℕ) (p q : ℕ) → IsPlace symbols text p → IsPlace symbols text q → p ≡ q
 one_place symbols text p q (address h) (address k) = one_address text p q h k

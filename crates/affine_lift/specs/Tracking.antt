@@ -1,12 +1,9 @@
 -- Track lists, as text: names between commas. A name is a register, or a frame slot `P:-N`, the word N bytes below the
 -- stack pointer at the entry of the procedure at the address P.
 --
---   is_comma c, is_colon c              the byte is a comma, a colon
---   items_of text                       the parts of the text between its commas
---   texts_of items                      the bytes of each item
+--   is_colon c                          the byte is a colon
 --   Scope                               what slots may be named by: the symbols of a file, and its procedures
 --   scope_of symbols procedures         these
---   IsAddress text p                    the text is `0x` and 1 to 16 hexadecimal digits of either case, the numeral of p
 --   value_of symbols text               the value of the first symbol of this name
 --   IsPlace symbols text p              the text is the address p, or else names it by a symbol
 --   HasColon item                       the item has a colon
@@ -31,10 +28,11 @@
 --   IsTrackRefusal scope text refusal
 --                                       the first cause for which the text is no such list; want of memory is free
 use Rattle.std.specs.Prelude.{◌≡◌, ◌≢◌, ℕ, Bool, ◌+◌, ◌<◌, ◌≤◌, ◌==◌, List, [], ◌∷◌, ◌++◌, length, map, All, AllPairs, Contains, Option, Some, find, option_map, slice_index}
-use denote.Ref.{Bor}
-use Rattle.std.specs.List.{after_first, before_first, slice_split, AllZip}
+use Rattle.std.specs.List.{after_first, before_first, AllZip}
 use Rattle.std.specs.Str.Parse.{IsNumeral, digits_value}
 use Rattle.std.specs.Str.{bytes_eq}
+use Rattle.numeral_read.specs.Lists.{items_of}
+use Rattle.numeral_read.specs.Reading.{IsAddress}
 use Rattle.elf_image.specs.declared.symbol.Symbol.{Symbol}
 use Rattle.rv_decode.specs.Registers.{register_of}
 use Rattle.report_text.specs.Names.{IsAllowedBelow}
@@ -43,28 +41,12 @@ use Rattle.report_text.specs.declared.names.Name.TheVariants.{Register, Slot}
 use Rattle.refusals.specs.declared.track.TrackRefusal.{TrackRefusal}
 use Rattle.refusals.specs.declared.track.TrackRefusal.TheVariants.{Empty, TooMany, UnknownName, BadSlot, NoSuchProcedure, Repeated, Memory}
 
-abbrev pub is_comma : ℕ → Bool
-is_comma c = c == 44
-
-abbrev pub items_of : List ℕ → List (List ℕ)
-items_of text = slice_split is_comma text
-
-abbrev pub texts_of : List (Bor (List ℕ)) → List (List ℕ)
-texts_of items = map (λ item. item.now) items
-
 pub record Scope : Type 0 where
   pub symbols : List Symbol
   pub procedures : List ℕ
 
 abbrev pub scope_of : List Symbol → List ℕ → Scope
 scope_of symbols procedures = record { symbols = symbols; procedures = procedures }
-
-pub record IsAddress (text : List ℕ) (p : ℕ) : Type 0 where
-  pub digits : List ℕ
-  pub text_is : text ≡ 48 ∷ 120 ∷ digits
-  pub numeral : IsNumeral 16 digits
-  pub short : length digits ≤ 16
-  pub value : p ≡ digits_value 16 digits
 
 abbrev pub value_of : List Symbol → List ℕ → Option ℕ
 value_of symbols text = option_map (λ s. s.value) (find (λ s. bytes_eq s.name text) symbols)

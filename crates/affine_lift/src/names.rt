@@ -1,17 +1,17 @@
 //! Track lists.
 
-ghost use Rattle.std.specs.Prelude.{◌≡◌, ◌≢◌, ◌==◌, ◌↔◌, ℕ, ◌+◌, ◌<◌, ◌≤◌, ◌^◌, List, ◌∷◌, length, slice_index, All, Contains, IsTrue, IfOk, IfErr, IfSome, Some, MatchOption, MatchResult};
-ghost use Rattle.std.specs.Option.{SomeIff};
+ghost use Rattle.std.specs.Prelude.{◌≡◌, ◌≢◌, ◌↔◌, ℕ, ◌+◌, ◌<◌, ◌≤◌, List, length, All, Contains, IsTrue, IfOk, IfErr, IfSome, Some, MatchOption, MatchResult};
 ghost use Rattle.std.specs.List.{after_first, before_first};
-ghost use Rattle.std.specs.Str.Parse.{IsNumeral, digits_value};
 ghost use Rattle.std.specs.Str.{bytes_eq};
 ghost use Rattle.rv_decode.specs.Registers.{register_of};
 ghost use Rattle.report_text.specs.Names.{IsAllowedBelow, IsName};
 ghost use Rattle.report_text.specs.declared.names.Name.{Name};
-ghost use Rattle.affine_lift.specs.Tracking.{is_colon, items_of, HasColon, texts_of, AreNames, Breaks, HasName, IsAddress, IsDistance, IsFurther, IsIn, IsNamesRefusal, IsPlace, IsSlotText, IsTracked, IsTrackRefusal, Names, scope_of, value_of};
+ghost use Rattle.numeral_read.specs.Lists.{texts_of};
+ghost use Rattle.affine_lift.specs.Tracking.{is_colon, HasColon, AreNames, Breaks, HasName, IsDistance, IsFurther, IsIn, IsNamesRefusal, IsPlace, IsSlotText, IsTracked, IsTrackRefusal, Names, scope_of, value_of};
 
 use elf_image::{Image, Symbol};
 use flow_points::Points;
+use numeral_read::{begins_with, behind, items_between_commas, number_of, read_address};
 use refusals::TrackRefusal;
 use report_text::{Name, Tracked};
 use rv_decode::read_register;
@@ -37,12 +37,6 @@ pub fn read_tracked(
     }
     let names = names_of(alloc, &items, image.symbols.as_slice(), points.procedures())?;
     Ok(Tracked { names })
-}
-
-fn items_between_commas(alloc: Global, list: &str) -> Result<Vec<&str>, AllocError>
-    ensures { IfOk result (λ items. texts_of items.items ≡ items_of list.now) }
-{
-    list.split(',').collect(alloc)
 }
 
 // The names of the items, or the first item that is no further name.
@@ -151,7 +145,7 @@ fn parts(item: &str) -> Option<(&str, &str)>
 fn place_of(text: &str, symbols: &[Symbol]) -> Option<u64>
     ensures { MatchOption result ((p : ℕ) → IsPlace symbols.now text.now p → ⊥) (IsPlace symbols.now text.now) }
 {
-    match address_of(text) {
+    match read_address(text) {
         Some(address) => Some(address),
         None => value_of(symbols, text),
     }
@@ -171,37 +165,6 @@ fn is_named(symbol: &Symbol, text: &str) -> bool
     symbol.name.as_slice() == text.as_bytes()
 }
 
-// The address that a text is, as `0x` and hexadecimal digits.
-fn address_of(text: &str) -> Option<u64>
-    ensures { MatchOption result ((p : ℕ) → IsAddress text.now p → ⊥) (λ p. IsAddress text.now p) }
-{
-    let Some(digits) = digits_behind(text) else {
-        return None;
-    };
-    if digits.len() > 16 {
-        return None;
-    }
-    number_of(digits, 16)
-}
-
-// What stands behind `0x`.
-fn digits_behind(text: &str) -> Option<&str>
-    ensures { MatchOption result ((rest : List ℕ) → text.now ≢ 48 ∷ 120 ∷ rest) (λ rest. text.now ≡ 48 ∷ 120 ∷ rest.now) }
-{
-    match behind(text, '0') {
-        Some(rest) => behind(rest, 'x'),
-        None => None,
-    }
-}
-
-// What stands behind the first character, if it is this one.
-fn behind(text: &str, first: char) -> Option<&str>
-    requires { first < 128 }
-    ensures { MatchOption result ((rest : List ℕ) → text.now ≢ first ∷ rest) (λ rest. text.now ≡ first ∷ rest.now) }
-{
-    text.strip_prefix(first)
-}
-
 // The distance of a slot that a text is, as `-` and decimal digits.
 fn distance_of(text: &str) -> Option<u16>
     ensures { MatchOption result ((n : ℕ) → IsDistance text.now n → IsAllowedBelow n → ⊥) (λ n. IsDistance text.now n × IsAllowedBelow n) }
@@ -217,30 +180,5 @@ fn distance_of(text: &str) -> Option<u16>
         Some(below as u16)
     } else {
         None
-    }
-}
-
-// The number of a numeral without a sign.
-fn number_of(digits: &str, radix: u32) -> Option<u64>
-    requires least { 2 ≤ radix }
-    requires most { radix ≤ 36 }
-    ensures { SomeIff result (IsNumeral radix digits.now × (digits_value radix digits.now < 2 ^ 64)) (digits_value radix digits.now) }
-{
-    if begins_with(digits, b'+') {
-        return None;
-    }
-    match u64::from_str_radix(digits, radix) {
-        Ok(number) => Some(number),
-        Err(_) => None,
-    }
-}
-
-fn begins_with(text: &str, byte: u8) -> bool
-    requires { byte ≢ 0 }
-    ensures { result ≡ (slice_index text.now 0 == byte) }
-{
-    match text.as_bytes() {
-        [first, ..] => *first == byte,
-        [] => false,
     }
 }

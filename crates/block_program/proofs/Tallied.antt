@@ -6,7 +6,11 @@ use Rattle.std.proofs.lemmas.List.Elements.{filter-append}
 use Rattle.affine_prog.specs.declared.Edge.{Edge}
 use Rattle.block_program.specs.declared.Tally.{Tally}
 use Rattle.block_program.specs.declared.Tally.TheVariants.{Nothing, One, Many}
-use Rattle.block_program.specs.Tallies.{more_of, IsTally, AreTallies}
+use Rattle.affine_prog.specs.declared.Program.{Program}
+use Rattle.affine_prog.specs.Programs.{IsEdgeOf}
+use Rattle.block_program.specs.declared.tallies.Side.{Side}
+use Rattle.block_program.specs.declared.tallies.Side.TheVariants.{From, To}
+use Rattle.block_program.specs.Tallies.{end_of, more_of, IsTally, AreTallies}
 
 module _ (test : Edge → Bool) (xs : List Edge) (e : Edge) (k : ℕ) (long : length xs ≡ k) where
   more : (b : Bool) → test e ≡ b → filter test (xs ++ e ∷ []) ≡ filter test xs ++ cond b (e ∷ []) []
@@ -61,3 +65,7 @@ told_none node_of n edges = record {
 
 pub told_all : (node_of : Edge → ℕ) (n : ℕ) (edges : List Edge) (table : List Tally) (k : ℕ) → length edges ≤ k → AreTallies node_of n (take k edges) table → AreTallies node_of n edges table
 told_all node_of n edges table k past t = subst (λ (xs : List Edge). AreTallies node_of n xs table) (take_all k edges past) t
+
+pub end_within : (program : Program) (e : Edge) (side : Side) → IsEdgeOf program e → end_of side e < program.nodes
+end_within program e From formed = formed.from
+end_within program e To formed = formed.to

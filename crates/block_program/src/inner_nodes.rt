@@ -12,7 +12,7 @@ ghost use Rattle.block_program.specs.Ends.{AreEnds};
 ghost use Rattle.block_program.specs.EdgesInto.{IsEdgeInto, AreEdgesInto, assigns_of};
 
 use crate::Tally;
-use crate::tallies::{arrivals, departures};
+use crate::tallies::{Side, tallies};
 use affine_prog::{Kind, Program};
 use std::alloc::{AllocError, Global};
 
@@ -86,8 +86,8 @@ pub(crate) fn inner_edges(alloc: Global, program: &Program) -> Result<Vec<Option
     requires { IsWellFormed program.now }
     ensures { IfOk result (λ table. AreEdgesInto program.now table.items) }
 {
-    let into = arrivals(alloc, program)?;
-    let out = departures(alloc, program)?;
+    let into = tallies(alloc, program, Side::To)?;
+    let out = tallies(alloc, program, Side::From)?;
     let ends = ends(alloc, program)?;
     let mut table = Vec::new(alloc);
     for node in 0..program.nodes {

@@ -1,18 +1,28 @@
-//! Numerals that are read: the inverse of writing them.
+//! Numbers that are read, and lists of texts between commas.
 //!
-//! A text is read exactly where it is the one numeral of a number below 2^64, without zeros in front.
+//! [`read_dec`] and [`read_hex`] are the inverse of writing: a text is read exactly where it is the one numeral of a number
+//! below 2^64, without zeros in front. [`number_of`] and [`read_address`] take what people type: digits of either case, with
+//! zeros in front or without. [`items_between_commas`] cuts a list.
 //!
 //! ```text
 //! read_dec(b"65660") // Some(65660)
 //! read_hex(b"0x10078") // Some(0x10078)
+//! number_of("0060", 10) // Some(60)
+//! read_address("0x1007C") // Some(0x1007c)
 //! ```
 #![tactic(auto)]
+
+mod lists;
+mod typed;
 
 ghost use Rattle.std.specs.Prelude.{◌≡◌, ℕ, ◌<◌, ◌≤◌, ◌^◌, false, IsTrue, ◌↔◌};
 ghost use Rattle.std.specs.Fmt.{digits, digit_glyph};
 ghost use Rattle.std.specs.Char.{digit_value};
 ghost use Rattle.numeral_read.specs.Reading.{IsNumberOf};
 ghost use Rattle.number_text.specs.Numerals.{dec, hex};
+
+pub use lists::items_between_commas;
+pub use typed::{begins_with, behind, number_of, read_address};
 
 /// The number whose decimal numeral `text` is; `None` where it is no number's below 2^64.
 pub fn read_dec(text: &[u8]) -> Option<u64>

@@ -1,8 +1,6 @@
 //! The order that arguments are.
 
-ghost use Rattle.std.specs.Prelude.{◌≡◌, ◌≢◌, ◌==◌, ◌<◌, ◌^◌, ◌∷◌, IfOk, codes, slice_index};
-ghost use Rattle.std.specs.Option.{SomeIff};
-ghost use Rattle.std.specs.Str.Parse.{IsNumeral, digits_value};
+ghost use Rattle.std.specs.Prelude.{◌≡◌, ◌∷◌, IfOk, codes};
 ghost use Rattle.orders.specs.Orders.{texts_of, order_of, count_of, has_zeros, HasFewSteps};
 ghost use Rattle.orders.specs.OrdersRead.{order_in};
 
@@ -10,6 +8,7 @@ use crate::Order;
 use crate::command_words::{
     given_value, parse_file, parse_report, parse_run, parse_track, value_of,
 };
+use numeral_read::{begins_with, number_of};
 use std::alloc::{AllocError, Global};
 
 /// The greatest number in an order.
@@ -132,7 +131,7 @@ fn count_of(text: &str) -> Option<u32>
     if has_zeros(text) {
         return None;
     }
-    let Some(n) = number_of(text) else {
+    let Some(n) = number_of(text, 10) else {
         return None;
     };
     if n <= MOST_COUNT {
@@ -146,27 +145,4 @@ fn has_zeros(text: &str) -> bool
     ensures { result ≡ has_zeros text.now }
 {
     text.len() > 1 && begins_with(text, b'0')
-}
-
-// The number that digits write.
-fn number_of(text: &str) -> Option<u64>
-    ensures { SomeIff result (IsNumeral 10 text.now × (digits_value 10 text.now < 2 ^ 64)) (digits_value 10 text.now) }
-{
-    if begins_with(text, b'+') {
-        return None;
-    }
-    match u64::from_str_radix(text, 10) {
-        Ok(number) => Some(number),
-        Err(_) => None,
-    }
-}
-
-fn begins_with(text: &str, byte: u8) -> bool
-    requires { byte ≢ 0 }
-    ensures { result ≡ (slice_index text.now 0 == byte) }
-{
-    match text.as_bytes() {
-        [first, ..] => *first == byte,
-        [] => false,
-    }
 }

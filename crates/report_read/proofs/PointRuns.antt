@@ -51,7 +51,7 @@ module _ (report : Report) (words : IsOfWords report) (distinct : AllPairs (λ (
   abbrev registers : List ℕ
   registers = wanted_in report.version report.tracked.names
 
-  abbrev here : List ReportCert → List PointRows → Place → Draft
+  abbrev pub here : List ReportCert → List PointRows → Place → Draft
   here certs points place = record { version = report.version; tracked = report.tracked; certs = certs; points = points; place = place }
 
   pub record IsPointThere (q : PointRows) : Type 0 where

@@ -13,7 +13,6 @@ use Rattle.report_text.specs.Reports.{AreRowsAt, Ascend}
 use Rattle.report_text.specs.Text.{points_text}
 use Rattle.report_lines.specs.Parts.{parts_of}
 use Rattle.report_read.specs.declared.draft.Draft.{Draft}
-use Rattle.report_read.specs.declared.draft.Place.{Place}
 use Rattle.report_read.specs.declared.draft.Place.TheVariants as places
 use Rattle.report_read.specs.Drafts.{wanted_in}
 use Rattle.report_read.specs.Judging.{IsJudged}
@@ -23,7 +22,7 @@ use Rattle.report_read.proofs.WholeCerts.{no_certs}
 use Rattle.report_read.proofs.Left.{ending, opening_of_next}
 use Rattle.report_read.proofs.LinesAgain.{Closes}
 use Rattle.report_read.proofs.Sites.{other_opened, sites}
-use Rattle.report_read.proofs.PointRuns.{AscendFrom, ascend_from, IsPointThere, GoesOn, end_run, new_run, same_run}
+use Rattle.report_read.proofs.PointRuns.{AscendFrom, ascend_from, here, IsPointThere, GoesOn, end_run, new_run, same_run}
 
 module _ (report : Report) (words : IsOfWords report) (distinct : AllPairs (λ (a : Name) b. a ≢ b) report.tracked.names) where
   abbrev names : List Name
@@ -32,11 +31,8 @@ module _ (report : Report) (words : IsOfWords report) (distinct : AllPairs (λ (
   abbrev registers : List ℕ
   registers = wanted_in report.version report.tracked.names
 
-  abbrev here : List ReportCert → List PointRows → Place → Draft
-  here certs points place = record { version = report.version; tracked = report.tracked; certs = certs; points = points; place = place }
-
   told_run : (points : List PointRows) (b a k : ℕ) (d : Draft) (certs : List ReportCert) (seen : List PointRows) (later : List ReportCert)
-      → Closes d (here certs seen (places.Told b a))
+      → Closes d (here report words distinct certs seen (places.Told b a))
       → certs ++ later ≡ report.certs → seen ++ points ≡ report.points → map site_of later ≡ sites registers (Some b) points
       → AscendFrom b a points → AllByRecursion (IsPointThere report words distinct) points
       → IsJudged (parts_of 10 (points_text names later (Some b) points ++ ending)) k d (Ok report)

@@ -2,7 +2,8 @@
 use Rattle.std.proofs.Common.{◌≡◌, ◌∙◌, ℕ, ◌+◌, ◌<◌, Bool, true, false, List, [], ◌∷◌, length, take, get_or}
 use Rattle.std.proofs.Common.{replicate, slice_set, get_or-take, refl, sym, ap, subst, Bor, suc, arith}
 use Rattle.std.proofs.lemmas.List.{take_more, get_or-map, length-take, length-set}
-use Rattle.start_registers.specs.Settings.{texts_of, AreRegistersOf, IsSet, IsSettingList, Sets}
+use Rattle.numeral_read.specs.Lists.{texts_of}
+use Rattle.start_registers.specs.Settings.{AreRegistersOf, IsSet, IsSettingList, Sets}
 use Rattle.start_registers.proofs.Tables.{IsTable, table_start, table_push, list_push}
 
 abbrev pub IsMarked : List (List ℕ) → List Bool → Type 0

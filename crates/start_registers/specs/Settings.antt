@@ -1,10 +1,6 @@
 -- The registers with which a run starts, as text: items `register=word` between commas.
 --
---   is_comma c                  the byte is a comma
---   items_of text               the parts of the text between its commas
---   texts_of items              the bytes of each item
---   IsWordText text w           the text is the word w: in decimal without leading zeros, or as `0x` and 1 to 16 hexadecimal
---                               digits of either case
+--   IsWordText text w           the text is the word w: in decimal without leading zeros, or as an address is written
 --   HasNoEquals text            no byte of the text is `=`
 --   Sets item r w               the item is `name=word`: the name is one of register r, which isn't zero, and the word is w
 --   IsSet items r w             some item sets register r to the word w
@@ -13,27 +9,16 @@
 --                               sets it to, and 0 where none does
 --   IsRegistersOf text regs     the registers of the text's items, or None where these are no such list
 --   IsStart text regs           the same of a text that may be left out: without it all registers are 0
-use Rattle.std.specs.Prelude.{◌≡◌, ◌≢◌, ℕ, Bool, ◌<◌, ◌≤◌, ◌^◌, ◌==◌, List, ◌∷◌, ◌++◌, Option, Some, None}
-use Rattle.std.specs.Prelude.{length, map, replicate, All, AllPairs, Contains, slice_index}
-use denote.Ref.{Bor}
-use Rattle.std.specs.List.{slice_split}
-use Rattle.std.specs.Str.Parse.{IsNumeral, digits_value}
+use Rattle.std.specs.Prelude.{◌≡◌, ◌≢◌, ℕ, ◌<◌, ◌^◌, List, ◌∷◌, ◌++◌, Option, Some, None}
+use Rattle.std.specs.Prelude.{length, replicate, All, AllPairs, Contains, slice_index}
 use Rattle.number_text.specs.Numerals.{dec}
+use Rattle.numeral_read.specs.Lists.{items_of}
+use Rattle.numeral_read.specs.Reading.{IsAddress}
 use Rattle.rv_decode.specs.Registers.{register_of}
-
-abbrev pub is_comma : ℕ → Bool
-is_comma c = c == 44
-
-abbrev pub items_of : List ℕ → List (List ℕ)
-items_of text = slice_split is_comma text
-
-abbrev pub texts_of : List (Bor (List ℕ)) → List (List ℕ)
-texts_of items = map (λ item. item.now) items
 
 pub data IsWordText (text : List ℕ) (w : ℕ) : Type 0 where
   decimal : w < 2 ^ 64 → text ≡ dec w → IsWordText text w
-  hexadecimal : (digits : List ℕ) → text ≡ 48 ∷ 120 ∷ digits → IsNumeral 16 digits → length digits ≤ 16
-      → w ≡ digits_value 16 digits → IsWordText text w
+  hexadecimal : IsAddress text w → IsWordText text w
 
 abbrev pub HasNoEquals : List ℕ → Type 0
 HasNoEquals text = (i : ℕ) → i < length text → slice_index text i ≢ 61

@@ -1,9 +1,11 @@
 //! Lists of items.
 
 ghost use Rattle.std.specs.Prelude.{◌≡◌, IfOk, MatchOption};
-ghost use Rattle.start_registers.specs.Settings.{items_of, texts_of, AreRegistersOf, IsRegistersOf, IsSettingList};
+ghost use Rattle.numeral_read.specs.Lists.{texts_of};
+ghost use Rattle.start_registers.specs.Settings.{AreRegistersOf, IsRegistersOf, IsSettingList};
 
 use crate::item::setting_of;
+use numeral_read::items_between_commas;
 use std::alloc::{AllocError, Global};
 
 /// The 32 registers that a list of items `register=word` makes, each that no item names with 0; `None` exactly where the
@@ -14,12 +16,6 @@ pub fn read_registers(alloc: Global, text: &str) -> Result<Option<[u64; 32]>, Al
 {
     let items = items_between_commas(alloc, text)?;
     Ok(registers_of(&items))
-}
-
-fn items_between_commas(alloc: Global, text: &str) -> Result<Vec<&str>, AllocError>
-    ensures { IfOk result (λ items. texts_of items.items ≡ items_of text.now) }
-{
-    text.split(',').collect(alloc)
 }
 
 // The registers that the items make.

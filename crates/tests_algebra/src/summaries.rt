@@ -105,22 +105,39 @@ fn are_spanned<L: Ledger>(
     Ok(true)
 }
 
-fn has_levels<L: Ledger>(
+/// Which bases of a program are asked for.
+#[derive(Clone, Copy)]
+enum Asked {
+    Levels,
+    Exits,
+}
+
+fn has_bases<L: Ledger>(
     alloc: Global,
     program: &Program,
+    asked: Asked,
     table: &[Case],
     steps: &mut Steps<L>,
 ) -> Result<bool, Memory> {
     if !well_formed(program) {
         return Ok(false);
     }
-    let summaries = summaries(alloc, program, steps)?;
-    are_spanned(alloc, summaries.levels(), table, steps)
+    match asked {
+        Asked::Levels => {
+            let summaries = summaries(alloc, program, steps)?;
+            are_spanned(alloc, summaries.levels(), table, steps)
+        }
+        Asked::Exits => {
+            let exits = exits(alloc, program, steps)?;
+            are_spanned(alloc, exits.bases(), table, steps)
+        }
+    }
 }
 
-fn levels_are<L: Ledger>(
+fn bases_are<L: Ledger>(
     alloc: Global,
     plan: &Plan,
+    asked: Asked,
     table: &[Case],
     blank: Blank,
 ) -> Result<bool, Memory>
@@ -130,53 +147,26 @@ fn levels_are<L: Ledger>(
 {
     let mut steps = Steps::<L>::new(blank);
     match program(alloc, plan) {
-        Ok(program) => has_levels(alloc, &program, table, &mut steps),
+        Ok(program) => has_bases(alloc, &program, asked, table, &mut steps),
         Err(_) => Err(Memory),
     }
 }
 
-fn has_exits<L: Ledger>(
-    alloc: Global,
-    program: &Program,
-    table: &[Case],
-    steps: &mut Steps<L>,
-) -> Result<bool, Memory> {
-    if !well_formed(program) {
-        return Ok(false);
-    }
-    let exits = exits(alloc, program, steps)?;
-    are_spanned(alloc, exits.bases(), table, steps)
-}
-
-fn exits_are<L: Ledger>(
-    alloc: Global,
-    plan: &Plan,
-    table: &[Case],
-    blank: Blank,
-) -> Result<bool, Memory>
-    requires name { blank.name ≡ L.name }
-    requires parts { blank.parts ≡ L.parts }
-    requires some { 0 < blank.parts }
-{
-    let mut steps = Steps::<L>::new(blank);
-    match program(alloc, plan) {
-        Ok(program) => has_exits(alloc, &program, table, &mut steps),
-        Err(_) => Err(Memory),
-    }
+/// Whether these are the bases of a small program at the nodes and procedures of the table.
+fn are_found(alloc: Global, plan: &Plan, asked: Asked, table: &[Case]) -> bool {
+    bases_are::<Brand>(alloc, plan, asked, table, Blank::new(1)) == Ok(true)
 }
 
 #[test]
 fn levels_by_hand(rt: HostRuntime) {
     let alloc = rt.alloc();
-    assert!(rt; levels_are::<Brand>(alloc, &LOOP, &LOOP_LEVELS, Blank::new(1)) == Ok(true));
-    assert!(rt;
-        levels_are::<Brand>(alloc, &RECURSION, &RECURSION_LEVELS, Blank::new(1)) == Ok(true)
-    );
+    assert!(rt; are_found(alloc, &LOOP, Asked::Levels, &LOOP_LEVELS));
+    assert!(rt; are_found(alloc, &RECURSION, Asked::Levels, &RECURSION_LEVELS));
 }
 
 #[test]
 fn exits_by_hand(rt: HostRuntime) {
     let alloc = rt.alloc();
-    assert!(rt; exits_are::<Brand>(alloc, &MUTUAL, &MUTUAL_EXITS, Blank::new(1)) == Ok(true));
-    assert!(rt; exits_are::<Brand>(alloc, &ENDLESS, &ENDLESS_EXITS, Blank::new(1)) == Ok(true));
+    assert!(rt; are_found(alloc, &MUTUAL, Asked::Exits, &MUTUAL_EXITS));
+    assert!(rt; are_found(alloc, &ENDLESS, Asked::Exits, &ENDLESS_EXITS));
 }

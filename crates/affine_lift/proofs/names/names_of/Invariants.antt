@@ -1,7 +1,8 @@
 -- The items so far are names.
 use Rattle.std.proofs.Common.{All, take}
 use Rattle.report_text.specs.Names.{IsName}
-use Rattle.affine_lift.specs.Tracking.{texts_of, AreNames, scope_of}
+use Rattle.numeral_read.specs.Lists.{texts_of}
+use Rattle.affine_lift.specs.Tracking.{AreNames, scope_of}
 use Rattle.affine_lift.proofs.names.names_of.Given as goal
 
 abbrev pub invariant-loop-i : goal.invariant-loop-i

@@ -1,7 +1,8 @@
 use Rattle.std.proofs.Common.{◌≡◌, length, ap, arith}
 use Rattle.std.proofs.lemmas.List.Splits.{length-slice_split}
 use Rattle.std.proofs.lemmas.Slice.Zip.{AllZip-long}
-use Rattle.affine_lift.specs.Tracking.{is_comma, Names}
+use Rattle.numeral_read.specs.Lists.{is_comma}
+use Rattle.affine_lift.specs.Tracking.{Names}
 use Rattle.affine_lift.proofs.ItemsNamed.{length-texts}
 use Rattle.affine_lift.proofs.names.read_tracked.Goals as goal
 use Rattle.affine_lift.proofs.names.read_tracked.Goals.{In_ok-names}

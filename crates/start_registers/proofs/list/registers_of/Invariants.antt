@@ -1,6 +1,7 @@
 -- These are the registers of the items so far, and those that they name are marked.
 use Rattle.std.proofs.Common.{◌≡◌, length, take}
-use Rattle.start_registers.specs.Settings.{texts_of, AreRegistersOf}
+use Rattle.numeral_read.specs.Lists.{texts_of}
+use Rattle.start_registers.specs.Settings.{AreRegistersOf}
 use Rattle.start_registers.proofs.ListsRead.{IsMarked}
 use Rattle.start_registers.proofs.list.registers_of.Given as goal
 

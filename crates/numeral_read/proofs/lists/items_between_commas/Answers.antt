@@ -1,10 +1,10 @@
 use Rattle.std.proofs.Common.{lit<}
 use Rattle.std.proofs.lemmas.Iterator.Consumers.{map_from_collect}
 use Rattle.std.proofs.lemmas.Iterator.Splits.{YieldsList-from_str_split}
-use Rattle.start_registers.proofs.list.items_between_commas.Goals as goal
+use Rattle.numeral_read.proofs.lists.items_between_commas.Goals as goal
 
 pub returns : goal.returns
 returns c =
     let split = c.split.ensures in
     map_from_collect _ c.collect.ensures.ran
-    (YieldsList-from_str_split 44 c.args.text.now (lit< tt) split.text split.has_more split.pattern)
+    (YieldsList-from_str_split 44 c.args.list.now (lit< tt) split.text split.has_more split.pattern)

@@ -1,10 +1,10 @@
 -- Addresses as text.
-use Rattle.std.proofs.Common.{◌≡◌, ℕ, ◌<◌, ◌≤◌, ◌^◌, List, ◌∷◌, length, Option, None, Some, MatchOption, subst, arith}
+use Rattle.std.proofs.Common.{◌≡◌, ◌∙◌, ℕ, ◌<◌, ◌≤◌, ◌^◌, List, ◌∷◌, length, Option, None, Some, MatchOption, sym, ap, subst, arith}
 use Rattle.std.specs.Option.{SomeIff}
 use Rattle.std.specs.Str.Parse.{IsNumeral, digits_value}
 use Rattle.std.proofs.lemmas.Int.Digits.{digits_value-lt}
 use Rattle.std.proofs.Math.Nat.{pow-le-pow_right}
-use Rattle.affine_lift.specs.Tracking.{IsAddress}
+use Rattle.numeral_read.specs.Reading.{IsAddress}
 
 short_numeral : (digits : List ℕ) → IsNumeral 16 digits → length digits ≤ 16 → digits_value 16 digits < 2 ^ 64
 short_numeral digits numeral short =
@@ -21,3 +21,8 @@ numeral_is_address text digits None split short none = λ p is.
     none (numeral, short_numeral digits numeral short)
 numeral_is_address text digits (Some p) split short found =
     record { digits = digits; text_is = split; numeral = found.0.0; short = short; value = found.1 }
+
+pub one_address : (text : List ℕ) (p q : ℕ) → IsAddress text p → IsAddress text q → p ≡ q
+one_address text p q h k =
+    let same : h.digits ≡ k.digits = let e = sym h.text_is ∙ k.text_is in cc in
+    h.value ∙ ap (digits_value 16) same ∙ sym k.value
