@@ -7,7 +7,7 @@ use Rattle.analyser_core.specs.declared.analysis.Analysis.{Analysis}
 use Rattle.analyser_core.specs.declared.refusal.Refusal.{Refusal}
 use Rattle.analyser_core.specs.declared.refusal.Refusal.TheVariants.{Elf, Flow, Track, Heads, Memory}
 use Rattle.analyser_core.specs.Accepted.{IsAcceptedAs, IsRefusal}
-use Rattle.analyser_core.specs.Made.{IsMade, IsMadeOf, IsMadeRefusal}
+use Rattle.analyser_core.specs.Made.{IsMade, IsMadeRefusal}
 use Rattle.analyser_core.specs.Reports.{IsReportOver}
 
 module _ (bytes list : List ℕ) (points : FlowPoints) (names : List Name) (accepted : IsAcceptedAs bytes list points names) where
@@ -18,8 +18,8 @@ module _ (bytes list : List ℕ) (points : FlowPoints) (names : List Name) (acce
   late_refusal (Heads limit) is = (is.1, record { points = points; names = names; program = is.0; accepted = accepted; lifted = is.2; many_heads = is.3 })
   late_refusal Memory is = tt
 
-  report_over : (a : Analysis) → IsMadeOf points names a.report a.certs → IsReportOver bytes list a.report a.certs
-  report_over a m = record {
+  report_over : (before after : ℕ) (a : Analysis) → IsMade points names before after a.report a.certs → IsReportOver bytes list a.report a.certs
+  report_over before after a m = record {
     points = points;
     names = names;
     program = m.program;
@@ -28,13 +28,7 @@ module _ (bytes list : List ℕ) (points : FlowPoints) (names : List Name) (acce
     is_report = m.is_report;
   }
 
-  pub answered : (result : Result Analysis Refusal) → IfOk result (λ a. IsMadeOf points names a.report a.certs) → IfErr result (IsMadeRefusal points names) →
-      MatchResult result (λ a. IsReportOver bytes list a.report a.certs) (IsRefusal bytes list)
-  answered (Ok a) made refusal = report_over a made
-  answered (Err e) made refusal = late_refusal e refusal
-
-  pub answered_counted : (before after : ℕ) (result : Result Analysis Refusal) → IfOk result (λ a. IsMade points names before after a.report a.certs) →
+  pub answered : (before after : ℕ) (result : Result Analysis Refusal) → IfOk result (λ a. IsMade points names before after a.report a.certs) →
       IfErr result (IsMadeRefusal points names) → MatchResult result (λ a. IsReportOver bytes list a.report a.certs) (IsRefusal bytes list)
-  answered_counted before after (Ok a) made refusal =
-      report_over a (record { program = made.program; lifted = made.lifted; few_heads = made.few_heads; is_report = made.is_report })
-  answered_counted before after (Err e) made refusal = late_refusal e refusal
+  answered before after (Ok a) made refusal = report_over before after a made
+  answered before after (Err e) made refusal = late_refusal e refusal

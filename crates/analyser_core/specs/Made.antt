@@ -3,8 +3,6 @@
 --   IsMade points names before after report certs
 --                             the report and the certificates are those of the program that is lifted from them, which has few heads,
 --                             and the counter rose by at least the number of rows of bases of the states at all nodes
---   IsMadeOf points names report certs
---                             so it is, whatever the counter did
 --   IsMadeRefusal points names refusal
 --                             memory was wanting, or such a program has too many heads
 --   HasWorked points names before after
@@ -32,12 +30,6 @@ pub record IsMade (points : FlowPoints) (names : List Name) (before after : ℕ)
   pub is_report : IsReportOf program points names report certs
   pub rows : (lists : List (List (List ℕ))) → AreReached program lists → All (IsLeadingBasis 17) lists
       → before + sum_by length lists ≤ after
-
-pub record IsMadeOf (points : FlowPoints) (names : List Name) (report : Report) (certs : List CertLine) : Type 0 where
-  pub program : Program
-  pub lifted : IsLifted points names program
-  pub few_heads : HasFewHeads program
-  pub is_report : IsReportOf program points names report certs
 
 abbrev pub IsMadeRefusal : FlowPoints → List Name → Refusal → Type 0
 IsMadeRefusal points names (Heads limit) = (program : Program) × (limit ≡ most_heads) × IsLifted points names program × HasManyHeads program

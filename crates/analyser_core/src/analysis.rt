@@ -9,7 +9,7 @@ ghost use Rattle.analyser_core.specs.Accepted.{IsRefusal};
 ghost use Rattle.analyser_core.specs.Reports.{IsReportOver};
 ghost use Rattle.analyser_core.specs.Work.{IsWithinWork, CountsStates};
 ghost use Rattle.analyser_core.specs.MachineRuns.{TellsOfRuns};
-ghost use Rattle.analyser_core.specs.Made.{IsMade, IsMadeOf, IsMadeRefusal, HasWorked};
+ghost use Rattle.analyser_core.specs.Made.{IsMade, IsMadeRefusal, HasWorked};
 
 use crate::Refusal;
 use crate::accept::accepted;
@@ -65,28 +65,25 @@ pub fn analyse<L: Ledger>(
 pub fn analyse_uncounted(alloc: Global, bytes: &[u8], track: &str) -> Result<Analysis, Refusal>
     ensures { MatchResult result (λ a. IsReportOver bytes.now track.now a.report a.certs) (IsRefusal bytes.now track.now) }
 {
-    let (points, tracked) = match accepted(alloc, bytes, track) {
-        Ok(accepted) => accepted,
-        Err(refusal) => return Err(refusal),
-    };
-    analysis_from::<Brand>(alloc, &points, tracked, Blank::new(1))
+    analyse_from::<Brand>(alloc, &Asked { bytes, track }, Blank::new(1))
+}
+
+// A file's bytes and a list.
+#[derive(Drop)]
+struct Asked<'a> {
+    bytes: &'a [u8],
+    track: &'a str,
 }
 
 // The same on a ledger that begins.
-fn analysis_from<L: Ledger>(
-    alloc: Global,
-    points: &Points,
-    tracked: Tracked,
-    blank: Blank,
-) -> Result<Analysis, Refusal>
+fn analyse_from<L: Ledger>(alloc: Global, asked: &Asked, blank: Blank) -> Result<Analysis, Refusal>
     requires name { blank.name ≡ L.name }
     requires parts { blank.parts ≡ L.parts }
     requires some { 0 < blank.parts }
-    ensures made { IfOk result (λ a. IsMadeOf points.now tracked.names a.report a.certs) }
-    ensures refusal { IfErr result (IsMadeRefusal points.now tracked.names) }
+    ensures { MatchResult result (λ a. IsReportOver asked.now.bytes.now asked.now.track.now a.report a.certs) (IsRefusal asked.now.bytes.now asked.now.track.now) }
 {
     let mut steps = Steps::<L>::new(blank);
-    analysis_of(alloc, points, tracked, &mut steps)
+    analyse(alloc, asked.bytes, asked.track, &mut steps)
 }
 
 // The analysis of points for names.

@@ -23,7 +23,7 @@ pub enum Refusal {
     #[error("{0}")]
     Track(TrackRefusal),
     /// The program has more heads than this.
-    #[error("more than {0} heads")]
+    #[error("TooManyHeads {0}")]
     Heads(u32),
     /// Want of memory.
     #[error("out of memory")]

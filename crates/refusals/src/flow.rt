@@ -14,8 +14,9 @@ pub enum FlowRefusal {
     /// segment, or it is no multiple of the unit.
     #[error("OutsideCode at {0:#x}")]
     OutsideCode(u64),
-    /// The instruction word, which with its length stands for no instruction.
-    #[error("NoInstruction {1:#x} at {0:#x}")]
+    /// The instruction word, which with its length stands for no instruction. The text has eight digits of the word; the
+    /// line of a refused word of two bytes, whose length the file's unit tells, has four.
+    #[error("NoInstruction {1:08x} at {0:#x}")]
     NoInstruction(u64, u32),
     /// A jump that links through this register, which is neither zero nor ra.
     #[error("OddLink {register} at {0:#x}", register = name(.1))]

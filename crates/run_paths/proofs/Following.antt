@@ -67,6 +67,17 @@ module _ (image : Image) (lift : Lift) (is : IsLiftOf image lift) where
         fetches = start_fetches m starts;
       }
 
+  -- the rule for slots, told of the point where the machine stands
+  pub slots_left : (s : List ℕ) (m n : Hart) (a : Activation) (earlier : List Activation) (maps : List (List ℕ))
+      (h : StandsAt image lift s m (a ∷ earlier) maps) → KeepsRules lift m n (a ∷ earlier) → LeavesSlots lift m n h.at a earlier
+  slots_left s m n a earlier maps h k =
+      let one : k.last ≡ a = (let e = k.are in cc e) in
+      let others : k.earlier ≡ earlier = (let e = k.are in cc e) in
+      let at : k.at ≡ h.at = (let e = sym k.is_at ∙ h.is_at in cc e) in
+      subst (λ (c : CodePoint). LeavesSlots lift m n c a earlier) at
+      (subst (λ (b : Activation). LeavesSlots lift m n k.at b earlier) one
+      (subst (λ (rest : List Activation). LeavesSlots lift m n k.at k.last rest) others k.slots))
+
   -- a step
   step_from : (s : List ℕ) (m n : Hart) (activations : List Activation) (maps : List (List ℕ)) → StandsAt image lift s m activations maps → Step m n
       → KeepsRules lift m n activations
@@ -75,18 +86,13 @@ module _ (image : Image) (lift : Lift) (is : IsLiftOf image lift) where
   step_from s m n (a ∷ earlier) [] h step k = absurd (none_stand lift s m.memory a earlier h.at m.registers h.all)
   step_from s m n (a ∷ earlier) (f ∷ maps) h step k =
       let one : k.last ≡ a = (let e = k.are in cc e) in
-      let others : k.earlier ≡ earlier = (let e = k.are in cc e) in
       let at : k.at ≡ h.at = (let e = sym k.is_at ∙ h.is_at in cc e) in
-      let leaves : LeavesSlots lift m n h.at a earlier =
-      subst (λ (c : CodePoint). LeavesSlots lift m n c a earlier) at
-      (subst (λ (b : Activation). LeavesSlots lift m n k.at b earlier) one
-      (subst (λ (rest : List Activation). LeavesSlots lift m n k.at k.last rest) others k.slots)) in
       let home : ReturnsToCaller n h.at a =
       subst (λ (c : CodePoint). ReturnsToCaller n c a) at (subst (λ (b : Activation). ReturnsToCaller n k.at b) one k.home) in
       let restores : RestoresFrame lift m h.at a =
       subst (λ (c : CodePoint). RestoresFrame lift m c a) at (subst (λ (b : Activation). RestoresFrame lift m k.at b) one k.frame) in
       subst (λ (o : Option CodePoint). StandsAt image lift s n (turned o m (a ∷ earlier)) (mapped lift o m n (a ∷ earlier) (f ∷ maps))) (sym h.is_at)
-      (one_step image lift is s m n a earlier f maps h step leaves k.code home restores)
+      (one_step image lift is s m n a earlier f maps h step (slots_left s m n a earlier (f ∷ maps) h k) k.code home restores)
 
   pub moments : (run : ℕ → Hart) (n : ℕ) → IsRunTo image run n → KeepsDiscipline lift run n → (i : ℕ) → i ≤ n
       → StandsAt image lift (start_of lift (run 0)) (run i) (activations_at lift run i) (path_of lift run i)

@@ -29,3 +29,4 @@ pub mod Certifying
 pub mod Sparing
 pub mod Weakening
 pub mod Obeying
+pub mod Opened

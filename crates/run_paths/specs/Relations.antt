@@ -5,6 +5,7 @@
 --   registers_with call registers registers with the link of a call in ra, where there was one
 --   opening_registers a           the registers of the moment when an activation opened: those of its call with the link in
 --                                 ra, and those of the run's start for the first one
+--   OpensAt lift run i            the machine's registers at the moment i are the opening registers of the last activation
 --   RestoresCertified lift run i  where the moment i is at a return, each tracked register that is certified in the last
 --                                 activation's procedure has its word of the moment when that activation opened
 --   IsSpared lift r               r is tracked and certified in each procedure
@@ -12,6 +13,8 @@
 --                                 the discipline where a return is asked nothing of the registers of a set: that it goes
 --                                 behind its call where ra is in the set, that sp is that of the entry where sp is, that a
 --                                 relied register is as it was where that is
+--   ActivationsOpen               a run that keeps the discipline has, at moment 0 and behind each call, the opening registers
+--                                 of the activation that opened
 --   RunsObey, RunsRestoreCertified, CertificatesSpare
 --                                 a run that keeps the discipline obeys the relations, and restores certified registers;
 --                                 where the set has spared registers alone, to keep the rest of it is to keep it whole
@@ -20,7 +23,7 @@ use Rattle.std.specs.Prelude.{◌≡◌, ◌≢◌, ℕ, suc, ◌<◌, ◌≤◌
 use Rattle.elf_image.specs.declared.image.Image.{Image}
 use Rattle.word_rows.specs.Rows.{dot}
 use Rattle.flow_points.specs.declared.code_points.CodePoint.{CodePoint}
-use Rattle.flow_points.specs.declared.code_points.Flow.TheVariants.{Return}
+use Rattle.flow_points.specs.declared.code_points.Flow.TheVariants.{Call, Return}
 use Rattle.affine_prog.specs.Relations.{Certified, Holds}
 use Rattle.report_text.specs.declared.names.Name.TheVariants.{Register}
 use Rattle.rv_step.specs.Harts.{Hart, x}
@@ -44,6 +47,12 @@ registers_with (Some site) registers = written registers 1 site.next
 
 abbrev pub opening_registers : Activation → List ℕ
 opening_registers a = registers_with a.call a.registers
+
+pub record OpensAt (lift : Lift) (run : ℕ → Hart) (i : ℕ) : Type 0 where
+  pub last : Activation
+  pub earlier : List Activation
+  pub are : activations_at lift run i ≡ last ∷ earlier
+  pub opens : (run i).registers ≡ opening_registers last
 
 pub record RestoresCertified (lift : Lift) (run : ℕ → Hart) (i : ℕ) : Type 0 where
   pub last : Activation
@@ -73,6 +82,12 @@ pub record KeepsRulesBut (lift : Lift) (spared : ℕ → Bool) (m n : Hart) (act
 abbrev pub KeepsDisciplineBut : Lift → (ℕ → Bool) → (ℕ → Hart) → ℕ → Type 0
 KeepsDisciplineBut lift spared run n =
     (i : ℕ) → i < n → KeepsRulesBut lift spared (run i) (run (suc i)) (activations_at lift run i)
+
+abbrev pub ActivationsOpen : Type 0
+ActivationsOpen =
+    (image : Image) (lift : Lift) (run : ℕ → Hart) (n : ℕ) → IsLiftOf image lift → IsRunTo image run n
+    → KeepsDiscipline lift run n → OpensAt lift run 0 × ((i : ℕ) → i < n → (at : CodePoint) → point_at lift run i ≡ Some at
+    → (target next : ℕ) → at.flow ≡ Call target next → OpensAt lift run (suc i))
 
 abbrev pub RunsObey : Type 0
 RunsObey =

@@ -2,7 +2,7 @@
 
 ghost use Rattle.run_paths.specs.Follows.{RunsFollow};
 ghost use Rattle.run_paths.specs.Maps.{MapsAct};
-ghost use Rattle.run_paths.specs.Relations.{CertificatesSpare, DisciplinesWeaken, RunsObey, RunsRestoreCertified};
+ghost use Rattle.run_paths.specs.Relations.{ActivationsOpen, CertificatesSpare, DisciplinesWeaken, RunsObey, RunsRestoreCertified};
 
 /// What the maps of openings, of steps and of calls make of states.
 pub fn maps_act()
@@ -18,6 +18,12 @@ pub fn runs_follow()
 /// Such a run obeys, at each moment, each relation that holds at its point: the relation is 0 on the machine's words.
 pub fn relations_hold_in_runs()
     ensures { RunsObey }
+{}
+
+/// Such a run has, at its start and behind each call, the opening registers of the activation that opened: those of the
+/// moment before, with the link in ra where it was a call.
+pub fn activations_open()
+    ensures { ActivationsOpen }
 {}
 
 /// Such a run has at each return, in each tracked register that is certified in the procedure that returns, the word that

@@ -1,10 +1,12 @@
 -- Wherever a run of accepted code comes, it is at a point, and it ends there.
-use Rattle.std.proofs.Common.{◌≡◌, ◌≢◌, ℕ, List, None, Some, ap, sym, ◌∙◌, subst}
+use Rattle.std.proofs.Common.{◌≡◌, ◌≢◌, ℕ, List, Contains, None, Some, ap, sym, ◌∙◌, subst}
 use Rattle.elf_image.specs.Fetches.{fetch}
 use Rattle.elf_image.specs.declared.fetched.Fetched.{Fetched}
 use Rattle.elf_image.specs.declared.image.Image.{Image}
-use Rattle.flow_points.specs.PointLists.{FlowPoints}
+use Rattle.flow_points.specs.PointLists.{FlowPoints, places_of}
+use Rattle.flow_points.specs.declared.code_points.CodePoint.{CodePoint}
 use Rattle.flow_points.specs.declared.code_points.Point.{Point}
+use Rattle.flow_points.proofs.Cited.{Contains-map, item_there}
 use Rattle.affine_lift.proofs.Cited.{number_at}
 use Rattle.rvc_expand.specs.Lengths.{MeansWithLength}
 use Rattle.rv_instr.specs.declared.Instr.{Instr}
@@ -15,10 +17,16 @@ use Rattle.rv_step.specs.declared.records.Stop.{Stop}
 use Rattle.run_paths.proofs.Fetching.{fetched_as}
 use Rattle.run_paths.proofs.Making.{code_of}
 use Rattle.run_watch.specs.declared.stops.RunStop.{RunStop}
-use Rattle.run_watch.specs.Runs.{Begins, Reaches, Scene, Sight, Spot, run_stop}
+use Rattle.run_watch.specs.Runs.{Begins, IsOffPoints, Reaches, Scene, Sight, Spot, run_stop}
 use Rattle.run_verdicts.specs.Points.{EndsAtPoint, IsAcceptedCode}
 use Rattle.run_verdicts.proofs.OnPoints.{on_points}
 use Rattle.run_verdicts.proofs.WordThere.{fetches_there}
+
+-- a run that is at a point isn't off the points
+pub never_off : (scene : Scene) (a : Spot) → EndsAtPoint scene a → IsOffPoints scene a → ⊥
+never_off scene a h off =
+    off (subst (Contains (places_of scene.points.points)) h.at.place
+    (Contains-map (λ (c : CodePoint). c.point) scene.points.points h.c (item_there scene.points.points h.i h.c h.at.code)))
 
 some_stop : (why : Stop) (other : RunStop) → run_stop why ≡ Some other → run_stop why ≢ None
 some_stop why other is none = cc

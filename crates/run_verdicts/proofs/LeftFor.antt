@@ -1,9 +1,8 @@
 -- Why a run of accepted code leaves.
-use Rattle.std.proofs.Common.{◌≡◌, ℕ, List, Contains, Some, sym, ◌∙◌, subst}
+use Rattle.std.proofs.Common.{◌≡◌, ℕ, List, Some, sym, ◌∙◌, subst}
 use Rattle.elf_image.specs.declared.image.Image.{Image}
-use Rattle.flow_points.specs.PointLists.{places_of}
 use Rattle.flow_points.specs.declared.code_points.CodePoint.{CodePoint}
-use Rattle.flow_points.proofs.Cited.{Contains-map, item_there}
+use Rattle.flow_points.proofs.Cited.{item_there}
 use Rattle.rv_step.specs.declared.records.Stop.{Stop}
 use Rattle.rv_step.specs.declared.records.Stop.TheVariants as stop
 use Rattle.run_paths.proofs.Finding.{one_code}
@@ -12,6 +11,7 @@ use Rattle.run_watch.specs.declared.stops.RunStop.TheVariants as run
 use Rattle.run_watch.specs.Runs.{Ends, IsAtPoint, Scene, Sight, Spot, budget, deep, has_word, leaves, lost, lost_at_limit, pc_of, run_stop, stops, strays}
 use Rattle.run_watch.specs.Runs as run_specs
 use Rattle.run_verdicts.specs.Points.{EndsAtPoint, IsAcceptedCode, IsLeftFor, altered, returned}
+use Rattle.run_verdicts.proofs.AtPoints.{never_off}
 
 never_left : (why : Stop) (address : ℕ) → run_stop why ≡ Some (run.Left address) → ⊥
 never_left (stop.Exit a0) address e = cc
@@ -26,9 +26,7 @@ module _ (image : Image) (scene : Scene) (limit : ℕ) (is : IsAcceptedCode imag
   pub left_for : (after : List Sight) (steps : ℕ) → Ends scene limit a after steps (run.Left address)
       → IsLeftFor scene limit a address
   left_for after steps (lost_at_limit off at none count why) = cc
-  left_for after steps (lost off more none count why) =
-      absurd (off (subst (Contains (places_of scene.points.points)) h.at.place
-      (Contains-map (λ (c : CodePoint). c.point) scene.points.points h.c (item_there scene.points.points h.i h.c h.at.code))))
+  left_for after steps (lost off more none count why) = absurd (never_off scene a h off)
   left_for after steps (budget i c s at spent closing seen count why) = cc
   left_for after steps (run_specs.altered i c at more differs none count why) =
       altered i c at differs (let e : address ≡ pc_of a = cc in e)

@@ -42,6 +42,7 @@ mod Onto
 mod OnPoints
 mod AtPoints
 mod LeftFor
+mod ShownAt
 mod Alike
 mod OneStop
 mod OneRecord

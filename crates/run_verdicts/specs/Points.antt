@@ -7,7 +7,9 @@
 --   IsLeftFor scene limit a at    the run leaves from a to the address `at`: the word in memory is not the point's, or a return
 --                                 goes elsewhere than to its caller
 --   RunsLeaveForCause             no run from a beginning leaves otherwise
-use Rattle.std.specs.Prelude.{◌≡◌, ◌≢◌, ℕ, List, None}
+--   IsShownAt scene a after       what is seen behind the run's stop is one closing record, at a point
+--   StopsAreShown                 so it is wherever a run from a beginning stops otherwise than by leaving
+use Rattle.std.specs.Prelude.{◌≡◌, ◌≢◌, ℕ, List, [], ◌∷◌, None}
 use Rattle.elf_image.specs.declared.image.Image.{Image}
 use Rattle.flow_points.specs.PointLists.{ArePointsOf, FlowPoints}
 use Rattle.flow_points.specs.Refusals.{IsFlowRefusal}
@@ -18,7 +20,8 @@ use Rattle.rv_step.specs.Records.{StopsWith}
 use Rattle.rv_step.specs.declared.machine.Machine.{Machine}
 use Rattle.rv_step.specs.declared.records.Stop.{Stop}
 use Rattle.run_watch.specs.Activations.{Leaves}
-use Rattle.run_watch.specs.Runs.{Begins, Ends, IsAtPoint, MakesStep, Reaches, Scene, Sight, Spot, has_word, pc_of, run_stop}
+use Rattle.run_watch.specs.Runs.{Begins, Ends, IsAtPoint, IsClosingSight, MakesStep, Reaches, Scene, Sight, Spot, has_word, pc_of, run_stop}
+use Rattle.run_watch.specs.declared.stops.RunStop.{RunStop}
 use Rattle.run_watch.specs.declared.stops.RunStop.TheVariants.{Left}
 
 pub record IsAcceptedCode (image : Image) (points : FlowPoints) : Type 0 where
@@ -47,3 +50,18 @@ RunsLeaveForCause =
     (image : Image) (scene : Scene) (limit : ℕ) (regs : List ℕ) (start last : Spot) (before after : List Sight)
     (steps address : ℕ) → IsAcceptedCode image scene.points → Begins image regs start → Reaches scene limit start before last
     → Ends scene limit last after steps (Left address) → IsLeftFor scene limit last address
+
+pub record IsShownAt (scene : Scene) (a : Spot) (after : List Sight) : Type 0 where
+  pub i : ℕ
+  pub c : CodePoint
+  pub at : IsAtPoint scene a i c
+  pub s : Sight
+  pub closing : IsClosingSight scene a i c s
+  pub alone : after ≡ s ∷ []
+
+abbrev pub StopsAreShown : Type 0
+StopsAreShown =
+    (image : Image) (scene : Scene) (limit : ℕ) (regs : List ℕ) (start last : Spot) (before after : List Sight)
+    (steps : ℕ) (stop : RunStop) → IsAcceptedCode image scene.points → Begins image regs start
+    → Reaches scene limit start before last → Ends scene limit last after steps stop
+    → ((address : ℕ) → stop ≢ Left address) → IsShownAt scene last after

@@ -2,7 +2,7 @@
 
 ghost use Rattle.run_verdicts.specs.Changes.{RecordsTellChanges};
 ghost use Rattle.run_verdicts.specs.Findings.{WatchesTell};
-ghost use Rattle.run_verdicts.specs.Points.{RunsEndAtPoints, RunsLeaveForCause};
+ghost use Rattle.run_verdicts.specs.Points.{RunsEndAtPoints, RunsLeaveForCause, StopsAreShown};
 ghost use Rattle.run_verdicts.specs.Runs.{QuietRunsKeepDiscipline, StrayReturnsAreFound, VerdictsFindFirstBreaches, WatchedRunsAreRuns};
 ghost use Rattle.run_verdicts.specs.Whole.{RecordsAreCounted, WholeRunsAreRuns};
 ghost use Rattle.run_verdicts.specs.Environment.{QuietEcallsKeepRules};
@@ -77,6 +77,11 @@ pub fn runs_end_at_points()
 /// So such a run leaves only where an instruction's word was changed, or by a return that goes elsewhere than to its caller.
 pub fn runs_leave_for_cause()
     ensures { RunsLeaveForCause }
+{}
+
+/// Where such a run stops otherwise than by leaving, watches see one closing record, with its moment.
+pub fn stops_are_shown()
+    ensures { StopsAreShown }
 {}
 
 /// The run of an image from given registers, of at most so many steps, is one: what is seen of it, its steps and its stop.

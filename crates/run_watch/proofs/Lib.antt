@@ -8,6 +8,7 @@ mod Refused
 mod PointsTold
 mod Marking
 mod Unmarked
+mod Listing
 mod NearestCode
 mod CloseCode
 mod Turning

@@ -1,5 +1,6 @@
 //! The moment before a step, and what is found there.
 
+ghost use Rattle.std.specs.Prelude.{◌≤◌, ◌<◌, length};
 ghost use Rattle.run_watch.specs.Activations.{slots_from};
 ghost use Rattle.run_watch.specs.Marks.{AreMarked};
 
@@ -34,7 +35,8 @@ pub struct LiveSlots<'a> {
 /// relies (bit i for s of i), and its return address, which the first lacks. `values` has the words of the names that are
 /// seen, 0 for each other and 1 at position 16. `unreached` and `rows` are what the report says of the point, where it has
 /// the point. `writable` has bit i where the point assigns to the slot at position i.
-/// The tracked names and the activations tell the live slots, and those of the earlier activations are marked.
+/// The tracked names and the activations tell the live slots, which `slots` lists, and those of the earlier activations are
+/// marked.
 #[derive(Drop)]
 pub struct WatchCtx<'a> {
     pub point: u32,
@@ -54,5 +56,7 @@ pub struct WatchCtx<'a> {
     pub last: &'a Activation,
     pub marks: &'a SlotMarks,
     pub code: &'a CodeBytes,
+    ghost few_names: { length names.now ≤ 16 },
+    ghost few_earlier: { length earlier.now < 65536 },
     ghost marked: { ∥ AreMarked marks.now (slots_from names.now 1 earlier.now) ∥₁ },
 }

@@ -24,6 +24,7 @@ mod outcomes;
 mod places;
 mod runs;
 mod shows;
+mod slot_lists;
 mod stack;
 mod stacks;
 mod stops;

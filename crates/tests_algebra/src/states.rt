@@ -4,10 +4,10 @@ ghost use Rattle.std.specs.Prelude.{◌≡◌, ◌<◌, length};
 
 use crate::small_programs::{EdgePlan, Plan, Put, Words, program, row};
 use affine_prog::{Proc, Program, well_formed};
-use call_summaries::exits;
+use call_summaries::{exits, summaries};
 use lead_basis::{Memory, Steps};
 use reach_modules::Reach;
-use reach_modules::solve::reach_by_exits;
+use reach_modules::solve::{reach, reach_by_exits};
 use std::alloc::Global;
 use std::marker::Brand;
 use std::sync::ledger::{Blank, Ledger};
@@ -142,6 +142,28 @@ fn are_reached<L: Ledger>(
     }
 }
 
+fn reaches_by_levels<L: Ledger>(
+    alloc: Global,
+    plan: &Plan,
+    table: &[Case],
+    blank: Blank,
+) -> Result<bool, Memory>
+    requires name { blank.name ≡ L.name }
+    requires parts { blank.parts ≡ L.parts }
+    requires some { 0 < blank.parts }
+{
+    let Ok(program) = program(alloc, plan) else {
+        return Err(Memory);
+    };
+    if !well_formed(&program) {
+        return Ok(false);
+    }
+    let mut steps = Steps::<L>::new(blank);
+    let summaries = summaries(alloc, &program, &mut steps)?;
+    let reached = reach(alloc, &program, summaries.levels(), &mut steps)?;
+    Ok(are_divided(&reached, program.nodes, table))
+}
+
 #[test]
 fn states_that_reach_nodes(rt: HostRuntime) {
     let alloc = rt.alloc();
@@ -149,4 +171,11 @@ fn states_that_reach_nodes(rt: HostRuntime) {
     assert!(rt;
         are_reached::<Brand>(alloc, &RECURSION, &RECURSION_BY_8, Blank::new(1)) == Ok(true)
     );
+}
+
+#[test]
+fn states_by_maps_at_each_node(rt: HostRuntime) {
+    let alloc = rt.alloc();
+    let blank = Blank::new(1);
+    assert!(rt; reaches_by_levels::<Brand>(alloc, &RECURSION, &RECURSION_BY_8, blank) == Ok(true));
 }

@@ -191,7 +191,7 @@ const REFUSED: [(&[u32], FlowRefusal, &str); 8] = [
     (
         &[0],
         FlowRefusal::NoInstruction(0x10078, 0),
-        "NoInstruction 0x0 at 0x10078",
+        "NoInstruction 00000000 at 0x10078",
     ),
     // auipc ra,0x0; jal zero,4; jalr zero,12(ra): an AUIPC that doesn't stand before the JALR
     (

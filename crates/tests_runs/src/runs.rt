@@ -19,10 +19,12 @@ use rv_step::StepRec;
 use sqlite_items::Items;
 use std::alloc::{AllocError, Global};
 
-/// Kind 9: counts the records that it sees.
+/// Kind 9: counts the records that it sees, and keeps how many live slots there were at most.
 #[derive(Drop)]
 struct CountWatch {
+    alloc: Global,
     count: u64,
+    slots: u64,
 }
 
 impl Watch for CountWatch {
@@ -30,21 +32,24 @@ impl Watch for CountWatch {
 
     ghost kind_of = { λ w. 9 };
 
-    ghost state = { λ w. Some (record { index = w.count; address = 0; detail = 0 }) };
+    ghost state = { λ w. Some (record { index = w.count; address = 0; detail = w.slots }) };
 
     fn kind(&self) -> u8 {
         9
     }
 
-    fn see(&mut self, _ctx: &WatchCtx, _rec: &StepRec) {
+    fn see(&mut self, ctx: &WatchCtx, _rec: &StepRec) {
         self.count = self.count.saturating_add(1);
+        if let Ok(slots) = ctx.slots(self.alloc) {
+            self.slots = self.slots.max(slots.len() as u64);
+        }
     }
 
     fn found(&self) -> Option<Found> {
         Some(Found {
             index: self.count,
             address: 0,
-            detail: 0,
+            detail: self.slots,
         })
     }
 }
@@ -184,7 +189,12 @@ fn watched(
         watches.push(Box::new(alloc, CodeWatch::new())?)?;
     }
     if which == Watches::Five {
-        watches.push(Box::new(alloc, CountWatch { count: 0 })?)?;
+        let watch = CountWatch {
+            alloc,
+            count: 0,
+            slots: 0,
+        };
+        watches.push(Box::new(alloc, watch)?)?;
     }
     match check_run(alloc, image, points, offsets, report, regs, steps, watches) {
         Ok(verdict) => Ok(Some(verdict)),
@@ -232,7 +242,9 @@ fn is_seen(alloc: Global, words: &[u32], most: u64, steps: u64, stop: RunStop, r
 {
     match run_under(alloc, words, "a0", most, Watches::Five) {
         Some(verdict) => {
-            verdict.steps == steps && verdict.stop == stop && fifth_of(&verdict) == Some(records)
+            verdict.steps == steps
+                && verdict.stop == stop
+                && fifth_of(&verdict) == Some((records, 0))
         }
         None => false,
     }
@@ -246,13 +258,19 @@ fn is_unseen(alloc: Global, words: &[u32], steps: u64, stop: RunStop) -> bool {
     }
 }
 
-/// How many records the watch behind the four saw.
-fn fifth_of(verdict: &RunVerdict) -> Option<u64> {
-    let found = verdict.found.as_slice();
-    if found.len() == 5 {
-        index_of(&found[4])
-    } else {
-        None
+/// How many records the watch behind the four saw, and how many live slots at most.
+fn fifth_of(verdict: &RunVerdict) -> Option<(u64, u64)> {
+    match verdict.found.as_slice() {
+        [_, _, _, _, Some(found)] => Some((found.index, found.detail)),
+        _ => None,
+    }
+}
+
+/// Whether the watch behind the four saw so many records of a run, and so many live slots at most.
+fn has_slots(alloc: Global, words: &[u32], list: &str, records: u64, slots: u64) -> bool {
+    match run_under(alloc, words, list, 1000, Watches::Five) {
+        Some(verdict) => fifth_of(&verdict) == Some((records, slots)),
+        None => false,
     }
 }
 
@@ -295,6 +313,7 @@ fn a_recursion_that_returns(rt: HostRuntime) {
             [None; 4]
         )
     );
+    assert!(rt; has_slots(rt.alloc(), &words, list, 26, 3));
 }
 
 /// A procedure writes 0 over its caller's saved ra, at step 4, so that the caller returns to 0, at step 8.

@@ -19,6 +19,8 @@ mod numerals;
 #[cfg(test)]
 mod readings;
 #[cfg(test)]
+mod refused;
+#[cfg(test)]
 mod registers;
 #[cfg(test)]
 mod reports;

@@ -1,5 +1,6 @@
 -- How a call carries out an order.
 --
+--   usage_text                        how an order is given
 --   IsUsage status text               what arguments get that are no order
 --   IsCodeOver contents               a file with these contents, or one whose contents aren't told, is accepted
 --   IsReadFault contents Rose ReportRose   the cause of a read fault of an order over a file and a report: that of the file's; or
@@ -21,10 +22,14 @@ use Rattle.order_answers.specs.CertsText.{certs_text}
 use Rattle.order_answers.specs.FileRefusals.{IsCode}
 use Rattle.order_answers.specs.ReportAnswers.{IsRun, IsUpgrade}
 
+abbrev pub usage_text : List ℕ
+usage_text =
+    codes "usage:" ++ nl ++ codes "analyse FILE --track LIST" ++ nl ++ codes "cert FILE --track LIST" ++ nl ++ codes "list FILE" ++ nl
+    ++ codes "run FILE REPORT --steps N [--regs R]" ++ nl ++ codes "gen N --track LIST" ++ nl ++ codes "upgrade FILE REPORT" ++ nl
+
 pub record IsUsage (status : ℕ) (text : List ℕ) : Type 0 where
   pub status_is : status ≡ 2
-  pub text_is : text ≡ codes "usage:" ++ nl ++ codes "analyse FILE --track LIST" ++ nl ++ codes "cert FILE --track LIST" ++ nl ++ codes "list FILE" ++ nl
-      ++ codes "run FILE REPORT --steps N [--regs R]" ++ nl ++ codes "gen N --track LIST" ++ nl ++ codes "upgrade FILE REPORT" ++ nl
+  pub text_is : text ≡ usage_text
 
 abbrev pub IsCodeOver : Option (List ℕ) → Type 0
 IsCodeOver (Some bytes) = (image : Image) × (points : FlowPoints) × IsCode bytes image points

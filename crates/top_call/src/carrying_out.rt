@@ -1,16 +1,18 @@
 //! Orders that are carried out.
 
-ghost use Rattle.std.specs.Prelude.{◌≡◌, ◌<◌, ℕ, List, None, map, replicate, option_map, ◌≤◌, IfOk, IfSome};
+ghost use Rattle.std.specs.Prelude.{◌≡◌, ◌≢◌, ◌<◌, ℕ, List, None, map, replicate, option_map, ◌≤◌, IfErr, IfOk, IfSome};
+ghost use Rattle.std.specs.IoError.{error_kind};
 ghost use Rattle.std.specs.Process.{exit_status};
 ghost use Rattle.run_answers.specs.Answers.{four_kinds};
 ghost use Rattle.report_text.specs.declared.reports.Report.{Report};
 ghost use Rattle.analyser_core.specs.MachineRuns.{TellsOfRuns};
 ghost use Rattle.analyser_core.specs.Reports.{IsReportOver};
 ghost use Rattle.analyser_core.specs.declared.cert_line.CertLine.{CertLine};
+ghost use Rattle.outside.specs.Counts.{HasRisen};
 ghost use Rattle.orders.specs.Orders.{texts_of, order_of, HasFewSteps};
 ghost use Rattle.orders.specs.OrdersRead.{order_in};
-ghost use Rattle.call_ends.specs.Calls.{call};
-ghost use Rattle.top_call.specs.Answers.{IsCarriedOut, IsRunOrder};
+ghost use Rattle.call_ends.specs.Calls.{Says, SaysIn, call, no_memory_text};
+ghost use Rattle.top_call.specs.Answers.{IsCarriedOut, IsRunOrder, usage_text};
 ghost use Rattle.top_call.specs.Completeness.{IsUnhindered, IsDone};
 
 use crate::file_orders::{reply_to_analyse, reply_to_cert, reply_to_list};
@@ -72,8 +74,9 @@ pub fn run<F: Files, K: Sink>(alloc: Global, words: &[String], files: &mut F, ou
     }
 }
 
-/// Carries out the order of the arguments, where they could be had, and ends with its status. An
-/// argument that is no UTF-8 text makes no order.
+/// Carries out the order of the arguments, where they could be had, and ends with its status. Where
+/// memory was wanting for them, it says so; for any other fault, as an argument that is no UTF-8 text, it
+/// says how an order is given.
 pub fn run_with<F: Files, K: Sink>(
     alloc: Global,
     words: io::Result<Vec<String>>,
@@ -82,14 +85,27 @@ pub fn run_with<F: Files, K: Sink>(
 ) -> ExitCode
     ensures given { IfOk words (λ w. IsCarriedOut (order_of (texts_of w.items))
         (call F.contents F.faults K.written K.faults files.old files.new out.old out.new) (exit_status result)) }
+    // Where the arguments couldn't be had, the call says why: memory was wanting, or they are none.
+    ensures no_memory { IfErr words (λ error. error_kind error ≡ ErrorKind.OutOfMemory → SaysIn
+        (call F.contents F.faults K.written K.faults files.old files.new out.old out.new) 5 no_memory_text (exit_status result)) }
+    ensures no_words { IfErr words (λ error. error_kind error ≢ ErrorKind.OutOfMemory → SaysIn
+        (call F.contents F.faults K.written K.faults files.old files.new out.old out.new) 2 usage_text (exit_status result)) }
     ensures counted { K.faults out.old < K.faults out.new → exit_status result ≡ 4 }
 {
     let status = match words {
         Ok(words) => run(alloc, &words, files, out),
         Err(error) if error.kind() == ErrorKind::OutOfMemory => say_reply(out, Reply::OutOfMemory),
-        Err(_) => say(out, 2, USAGE),
+        Err(_) => say_usage(out),
     };
     ExitCode::from(status)
+}
+
+// Says how an order is given.
+fn say_usage<K: Sink>(out: &mut K) -> u8
+    ensures said { Says (K.written out.old) (K.written out.new) 2 usage_text (HasRisen (K.faults out.old) (K.faults out.new)) result }
+    ensures counted { K.faults out.old < K.faults out.new → result ≡ 4 }
+{
+    say(out, 2, USAGE)
 }
 
 // Carries out an order. Without watches, those of a run are made for it.

@@ -9,7 +9,7 @@ use Rattle.analyser_core.proofs.RunsTold.{tells_of_runs}
 use Rattle.analyser_core.specs.Made as made
 use Rattle.analyser_core.specs.Made.{HasWorked, IsMade}
 use Rattle.analyser_core.specs.Work.{IsWithinWork, none, some}
-use Rattle.analyser_core.proofs.Answered.{answered_counted}
+use Rattle.analyser_core.proofs.Answered.{answered}
 use Rattle.analyser_core.proofs.analysis.analyse.Goals as goal
 
 within : (bytes list : List ℕ) (points : FlowPoints) (names : List Name) (before after : ℕ) → IsAcceptedAs bytes list points names →
@@ -20,7 +20,7 @@ within bytes list points names before after accepted (made.some program heads li
 
 pub returns-clause-report : goal.returns-clause-report
 returns-clause-report g c =
-    answered_counted c.args.bytes.now c.args.track.now c.in-Ok.accepted.0 c.in-Ok.accepted.1.names c.in-Ok.ensures _ _ c.analysis_of.result c.analysis_of.ensures.made c.analysis_of.ensures.refusal
+    answered c.args.bytes.now c.args.track.now c.in-Ok.accepted.0 c.in-Ok.accepted.1.names c.in-Ok.ensures _ _ c.analysis_of.result c.analysis_of.ensures.made c.analysis_of.ensures.refusal
 
 pub returns-clause-bounded : goal.returns-clause-bounded
 returns-clause-bounded g c =
