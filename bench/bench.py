@@ -147,6 +147,33 @@ def frames(n):
     return words + [EBREAK], ",".join(f"{ENTRY:#x}:-{8 * (k + 1)}" for k in range(16))
 
 
+def calling(n):
+    """n procedures in a ring: each mixes sixteen registers in a loop, in which it may call the next one."""
+    words = [jal(RA, 8), EBREAK]
+    for i in range(n):
+        loop = mixed(SIXTEEN)[:-1]
+        length = len(loop) + 4
+        call = len(words) + len(loop) + 1
+        callee = 2 + length * ((i + 1) % n)
+        loop += [beq(10, ZERO, 8), jal(RA, 4 * (callee - call))]
+        words += loop + [beq(10, ZERO, -4 * len(loop)), RETURN]
+    return words, tracked(SIXTEEN)
+
+
+def diamonds(n):
+    """Sixteen registers mixed by n diamonds, one after the other, in a procedure that returns: each has two sums, one a side."""
+    words = [jal(RA, 8), EBREAK] + mixed(SIXTEEN)
+    for i in range(n):
+        x, y, z = SIXTEEN[i % 16], SIXTEEN[(i + 3) % 16], SIXTEEN[(i + 7) % 16]
+        words += [beq(10, ZERO, 12), add(x, x, y), jal(ZERO, 8), add(x, x, z)]
+    return words + [RETURN], tracked(SIXTEEN)
+
+
+def limits(n):
+    """n points that change sixteen registers in turn, and no loop: straight code, up to as many points and names as are taken."""
+    return [addi(SIXTEEN[i % 16], SIXTEEN[i % 16], 1) for i in range(n - 1)] + [EBREAK], tracked(SIXTEEN)
+
+
 # What it is, its sizes, and what it stresses.
 TABLE = {
     "backwards": (backwards, [240, 480, 960, 1920, 3900], "a head for each point"),
@@ -159,6 +186,9 @@ TABLE = {
     "branches": (branches, [120, 240, 480, 960, 1920], "n branches one after the other"),
     "loops": (loops, [30, 60, 120, 240, 480], "a nest of n loops"),
     "frames": (frames, [125, 250, 500, 1000, 2000], "n loads and stores on sixteen slots"),
+    "calling": (calling, [1, 2, 4, 8, 16], "n loops that mix sixteen names and call each other in a ring"),
+    "diamonds": (diamonds, [15, 30, 60, 120, 240], "a procedure of n diamonds of joins: 257 rows of maps at each"),
+    "limits": (limits, [1024, 2048, 4096, 8192, 16384], "straight code that changes sixteen names, up to the limits"),
 }
 
 

@@ -10,7 +10,8 @@ use Rattle.affine_prog.specs.declared.Kind.TheVariants.{Do, Call}
 use Rattle.affine_prog.specs.declared.Assign.{Assign}
 use Rattle.affine_prog.specs.Programs.{edge, exit_of, entry_of, slots_of, owner_of, IsKindIn, IsEdgeOf, IsWellFormed}
 use Rattle.affine_prog.specs.Spans.{rows_at}
-use Rattle.call_summaries.specs.Tables.{edge_at}
+use Rattle.row_engine.specs.Tables.{edge_at}
+use Rattle.row_engine.proofs.ByNode.{edge_of}
 use Rattle.affine_prog.proofs.Lemmas.{step_placed, call_placed}
 use Rattle.affine_prog.proofs.Lemmas.{ArePlaced}
 
@@ -55,16 +56,6 @@ module _ (program : Program) (formed : IsWellFormed program) (e : Edge) (contain
 
   pub callee_within : (q : ℕ) (before : List Assign) → e.kind ≡ Call q before → q < length program.procs
   callee_within q before is = let k = subst (IsKindIn program (owner_of program e.from)) is edge_is.kind in k.0
-
--- the rows of a node
-pub rows_here : (bases : List (List (List ℕ))) (u : ℕ) (basis : List (List ℕ)) → u < length bases → basis ≡ get_or bases u basis → basis ≡ rows_at bases u
-rows_here bases u basis below is = is ∙ get_or_default bases u basis [] below
-
-pub edge_found : (program : Program) (k : ℕ) (e : Edge) (edges : List Edge) → k < length program.edges → edges ≡ program.edges → e ≡ get_or edges k e → e ≡ edge_at program k
-edge_found program k e edges within same is = is ∙ ap (λ (l : List Edge). get_or l k e) same ∙ get_or_default program.edges k e (edge 0 0 (Do [])) within
-
-pub edge_of : (program : Program) (k : ℕ) → IsWellFormed program → k < length program.edges → IsEdgeOf program (edge_at program k)
-edge_of program k formed within = formed.edges k (edge 0 0 (Do [])) within
 
 pub callee_of : (program : Program) (k : ℕ) → IsWellFormed program → k < length program.edges → (q : ℕ) (before : List Assign) → (edge_at program k).kind ≡ Call q before → q < length program.procs
 callee_of program k formed within q before is = let i = subst (IsKindIn program (owner_of program (edge_at program k).from)) is (edge_of program k formed within).kind in i.0

@@ -12,7 +12,7 @@ use Rattle.affine_prog.specs.Assignments.{Choice, matrix_of}
 use Rattle.affine_prog.specs.LevelPaths.{step_map}
 use Rattle.affine_prog.specs.Laws.{linear_call_map, IsStepOf}
 use Rattle.affine_prog.proofs.Lemmas.{ArePlaced}
-use Rattle.call_summaries.specs.NodeRows.{IsSound}
+use Rattle.call_summaries.specs.Sound.{IsSound}
 use Rattle.row_images.specs.Images.{AreImages, IsConstantRow, images_of}
 use Rattle.row_images.proofs.Laws.{made_are_rows, are_images}
 use Rattle.call_summaries.proofs.Soundness.{sound_modules, step_sound, call_sound, product_is_linear}

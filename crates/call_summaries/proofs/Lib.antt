@@ -1,6 +1,3 @@
-pub mod Listing
-pub mod Growing
-pub mod Taking
 pub mod InTurn
 pub mod Soundness
 pub mod Covering
@@ -12,7 +9,7 @@ pub mod Tabled
 pub mod Opening
 pub mod OpeningAll
 pub mod Exactness
-pub mod Working
+pub mod Solving
 pub mod Answering
 pub mod Marking
 pub mod Moving

@@ -8,7 +8,7 @@ use Rattle.affine_prog.specs.declared.Edge.{Edge}
 use Rattle.affine_prog.specs.declared.Kind.{Kind}
 use Rattle.affine_prog.specs.declared.Kind.TheVariants.{Do}
 use Rattle.affine_prog.specs.Programs.{edge, entry_of, exit_of, owner_of, IsWellFormed}
-use Rattle.call_summaries.specs.Tables.{edge_at}
+use Rattle.row_engine.specs.Tables.{edge_at}
 use Rattle.call_summaries.specs.Solutions.{IsWanted, IsChoiceOfProcs}
 use Rattle.call_summaries.proofs.ByNumber.{exit_at, entry_at}
 use Rattle.call_summaries.proofs.Exactness.{no_return}

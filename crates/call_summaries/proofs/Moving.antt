@@ -6,7 +6,7 @@ use Rattle.affine_prog.specs.declared.Program.{Program}
 use Rattle.affine_prog.specs.declared.Proc.{Proc}
 use Rattle.affine_prog.specs.Programs.{exit_of, owner_of, IsWellFormed}
 use Rattle.affine_prog.specs.Spans.{rows_at}
-use Rattle.call_summaries.specs.Work.{row_count}
+use Rattle.row_engine.specs.States.{row_count}
 use Rattle.call_summaries.proofs.ByNumber.{exit_at}
 
 pub record MovedSoFar (program : Program) (old levels exits : List (List (List ℕ))) (n : ℕ) : Type 0 where

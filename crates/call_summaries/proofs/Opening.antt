@@ -15,7 +15,7 @@ use Rattle.affine_prog.specs.Laws.{slot_words}
 use Rattle.row_images.specs.Images.{column}
 use Rattle.call_summaries.specs.Openings.{OpeningsFirst}
 use Rattle.row_images.proofs.Laws.{cell-column, column_length}
-use Rattle.call_summaries.proofs.Listing.{first_in, only_in}
+use Rattle.row_engine.proofs.Members.{first_in, only_in}
 
 in_identity : (i : ℕ) → i < 17 → (nat_lt i 16 || (i == 16)) ≡ true
 in_identity i below = elim (cases_lt i 16) [

@@ -1,5 +1,5 @@
 -- What pushing a row along one edge does: the offers are sound, and the end's module has what the edge makes.
-use Rattle.std.proofs.Common.{◌≡◌, ℕ, ◌<◌, List, Contains, All, Result, Ok, Err, OnOk, refl, ap, ap₂, sym, subst, ◌∙◌}
+use Rattle.std.proofs.Common.{◌≡◌, ℕ, ◌<◌, List, Contains, All, refl, ap, ap₂, sym, subst, ◌∙◌}
 use Rattle.row_modules.specs.Modules.{IsModule}
 use Rattle.row_modules.specs.Bases.{IsLeadingBasis}
 use Rattle.row_modules.proofs.Laws.{combinations, generator, mapped_into}
@@ -10,27 +10,23 @@ use Rattle.affine_prog.specs.declared.Assign.{Assign}
 use Rattle.affine_prog.specs.declared.Kind.TheVariants.{Do, Call}
 use Rattle.affine_prog.specs.Programs.{exit_of, slots_of, owner_of, IsWellFormed}
 use Rattle.affine_prog.specs.Assignments.{position_of, Choice, matrix_of}
-use Rattle.affine_prog.specs.Spans.{rows_at}
-use Rattle.call_summaries.specs.declared.NodeRow.{NodeRow}
-use Rattle.call_summaries.specs.NodeRows.{InModule, IsSound, AreSound}
 use Rattle.row_images.specs.Images.{images_of, IsConstantRow}
-use Rattle.call_summaries.specs.Growth.{Offered, Called, Returned, Takes}
-use Rattle.call_summaries.specs.Pushes.{call_of, ForwardBy, BackBy, PushesForward, PushesBack}
-use Rattle.call_summaries.proofs.Listing.{all_rows}
+use Rattle.row_engine.specs.States.{State, rows_at, InModule}
+use Rattle.row_engine.specs.Growth.{Offered}
+use Rattle.row_engine.proofs.Members.{all_rows}
+use Rattle.call_summaries.specs.Sound.{IsSound, AreSound}
+use Rattle.call_summaries.specs.Offers.{Called, Returned}
+use Rattle.call_summaries.specs.Pushes.{call_of, ForwardBy, Forward, BackBy, Back}
 use Rattle.call_summaries.proofs.ByNumber.{of_kind, do_placed, before_placed}
 use Rattle.call_summaries.proofs.Soundness.{sound_constant, call_is_linear_in_callers, call_is_linear_in_callees}
 use Rattle.call_summaries.proofs.Covering.{image_is_row, step_covered, call_covered, image_sound, called_sound}
 
-pub on_ok : {X E A B : Type 0} (r : Result X E) → (A → B) → OnOk r A → OnOk r B
-on_ok (Ok x) f h = f h
-on_ok (Err e) f h = h
+pub modules : (s : State) → All (IsLeadingBasis 289) s.bases → (u : ℕ) → IsModule 289 (InModule 289 s u)
+modules s all u = combinations 289 (Contains (rows_at s u)) (all_rows 289 s.bases all u)
 
-pub modules : (bases : List (List (List ℕ))) → All (IsLeadingBasis 289) bases → (u : ℕ) → IsModule 289 (InModule bases u)
-modules bases all u = combinations 289 (Contains (rows_at bases u)) (all_rows bases all u)
-
-module _ (program : Program) (formed : IsWellFormed program) (old : List (List (List ℕ))) (all : All (IsLeadingBasis 289) old) (sound : AreSound program old) where
+module _ (program : Program) (formed : IsWellFormed program) (old : State) (all : All (IsLeadingBasis 289) old.bases) (sound : AreSound program old) where
   pub row_sound : (u : ℕ) (m : List ℕ) → Contains (rows_at old u) m → IsSound program u m
-  row_sound u m h = sound u m (generator 289 (Contains (rows_at old u)) (all_rows old all u) m h)
+  row_sound u m h = sound u m (generator 289 (Contains (rows_at old u)) (all_rows 289 old.bases all u) m h)
 
   pub row_constant : (u : ℕ) (rows : List (List ℕ)) → rows ≡ rows_at old u → (m : List ℕ) → Contains rows m → IsConstantRow 17 m
   row_constant u rows is m h = (sound_constant program formed u m (row_sound u m (subst (λ l. Contains l m) is h))).constant
@@ -38,25 +34,22 @@ module _ (program : Program) (formed : IsWellFormed program) (old : List (List (
 module _ (program : Program) (formed : IsWellFormed program) (e : Edge) (contains : Contains program.edges e) where
   -- assignments
   module _ (assigns : List Assign) (is : e.kind ≡ Do assigns) (m : List ℕ) (own : IsSound program e.from m) (images : List (List ℕ)) (images_are : images ≡ images_of 17 assigns m) where
-    pub step_less : (u : ℕ) (x : List ℕ) → Offered e.to images u x → IsSound program u x
+    pub step_less : (u : ℕ) (x : List ℕ) → Offered 289 e.to images u x → IsSound program u x
     step_less u x h =
         let k = sound_constant program formed e.from m own in let there = h.0 in
         rw there (image_sound assigns (do_placed program formed e contains assigns is) m k.row k.constant program formed e.from e.to x
         (of_kind program formed e contains (Do assigns) is) own (subst (λ l. Contains l x) images_are h.2))
 
-    pub step_pushes : (old new : List (List (List ℕ))) (waiting list : List NodeRow) (before after : ℕ) → All (IsLeadingBasis 289) new
-        → Takes (Offered e.to images) old new waiting list before after → PushesForward program e old new m waiting list before after
-    step_pushes old new waiting list before after all_new t =
+    pub step_pushes : (old new : State) → All (IsLeadingBasis 289) new.bases → ((u : ℕ) (x : List ℕ) → Offered 289 e.to images u x → InModule 289 new u x) → Forward program e old new m
+    step_pushes old new all_new taken =
         let k = sound_constant program formed e.from m own in
-        let placed = do_placed program formed e contains assigns is in record {
-          lists = t.lists;
-          forward = subst (λ kind. ForwardBy program e.from e.to kind old new m) (sym is)
-              (step_covered assigns placed m k.row k.constant (InModule new e.to) (modules new all_new e.to)
-              (λ x h. t.taken e.to x (refl, image_is_row assigns placed m k.row k.constant x h, subst (λ l. Contains l x) (sym images_are) h)));
-        }
+        let placed = do_placed program formed e contains assigns is in
+        subst (λ kind. ForwardBy program e.from e.to kind old new m) (sym is)
+        (step_covered assigns placed m k.row k.constant (InModule 289 new e.to) (modules new all_new e.to)
+        (λ x h. taken e.to x (refl, image_is_row assigns placed m k.row k.constant x h, subst (λ l. Contains l x) (sym images_are) h)))
 
   -- calls
-  module _ (q : ℕ) (before : List Assign) (is : e.kind ≡ Call q before) (old : List (List (List ℕ))) (all : All (IsLeadingBasis 289) old) (sound : AreSound program old) where
+  module _ (q : ℕ) (before : List Assign) (is : e.kind ≡ Call q before) (old : State) (all : All (IsLeadingBasis 289) old.bases) (sound : AreSound program old) where
     abbrev slots : ℕ
     slots = slots_of program (owner_of program e.from)
 
@@ -88,24 +81,21 @@ module _ (program : Program) (formed : IsWellFormed program) (e : Edge) (contain
           rw (there, made) (pair_sound h.callee m h.image (row_sound program formed old all sound (exit_of program q) h.callee (subst (λ l. Contains l h.callee) callees_are h.of_callees)) own
           (subst (λ l. Contains l h.image) images_are h.of_images))
 
-      pub call_pushes : (new : List (List (List ℕ))) (waiting list : List NodeRow) (earlier after : ℕ) → All (IsLeadingBasis 289) new
-          → Takes (Called r s e.to callees images) old new waiting list earlier after → PushesForward program e old new m waiting list earlier after
-      call_pushes new waiting list earlier after all_new t = record {
-        lists = t.lists;
-        forward = subst (λ kind. ForwardBy program e.from e.to kind old new m) (sym is)
-            (λ words callee choice g.
-            mapped_into 289 289 (λ n. call_of program e.from (matrix_of before words) n m) (call_is_linear_in_callees program.registers slots (matrix_of before words) m)
-            (Contains (rows_at old (exit_of program q))) (InModule new e.to) (all_rows old all (exit_of program q)) (modules new all_new e.to)
-            (λ n i. pair_covered (InModule new e.to) (modules new all_new e.to) n m own
-            (λ x k. t.taken e.to _ (record {
-              there = refl;
-              callee = n;
-              image = x;
-              of_callees = subst (λ l. Contains l n) (sym callees_are) i;
-              of_images = subst (λ l. Contains l x) (sym images_are) k;
-              is = sym (extension_is n x);
-            })) words choice) callee g);
-      }
+      pub call_pushes : (new : State) → All (IsLeadingBasis 289) new.bases → ((u : ℕ) (x : List ℕ) → Called r s e.to callees images u x → InModule 289 new u x) → Forward program e old new m
+      call_pushes new all_new taken =
+          subst (λ kind. ForwardBy program e.from e.to kind old new m) (sym is)
+          (λ words callee choice g.
+          mapped_into 289 289 (λ n. call_of program e.from (matrix_of before words) n m) (call_is_linear_in_callees program.registers slots (matrix_of before words) m)
+          (Contains (rows_at old (exit_of program q))) (InModule 289 new e.to) (all_rows 289 old.bases all (exit_of program q)) (modules new all_new e.to)
+          (λ n i. pair_covered (InModule 289 new e.to) (modules new all_new e.to) n m own
+          (λ x k. taken e.to _ (record {
+            there = refl;
+            callee = n;
+            image = x;
+            of_callees = subst (λ l. Contains l n) (sym callees_are) i;
+            of_images = subst (λ l. Contains l x) (sym images_are) k;
+            is = sym (extension_is n x);
+          })) words choice) callee g)
 
     module _ (n extended : List ℕ) (own : IsSound program (exit_of program q) n) (extended_is : extended ≡ linear_extension program.registers slots n)
         (callers : List (List ℕ)) (callers_are : callers ≡ rows_at old e.from) where
@@ -114,21 +104,18 @@ module _ (program : Program) (formed : IsWellFormed program) (e : Edge) (contain
           let there = h.there in let made : x ≡ product (linear_extension program.registers slots n) h.image = h.is ∙ ap (λ y. product y h.image) extended_is in
           rw (there, made) (pair_sound n h.caller h.image own (row_sound program formed old all sound e.from h.caller (subst (λ l. Contains l h.caller) callers_are h.of_callers)) h.of_images)
 
-      pub return_pushes : (new : List (List (List ℕ))) (waiting list : List NodeRow) (earlier after : ℕ) → All (IsLeadingBasis 289) new
-          → Takes (Returned before extended e.to callers) old new waiting list earlier after → PushesBack program e old new n waiting list earlier after
-      return_pushes new waiting list earlier after all_new t = record {
-        lists = t.lists;
-        back = subst (λ kind. BackBy program e.from e.to kind old new n) (sym is)
-            (λ words caller choice g.
-            mapped_into 289 289 (call_of program e.from (matrix_of before words) n) (call_is_linear_in_callers program.registers slots (matrix_of before words) n)
-            (Contains (rows_at old e.from)) (InModule new e.to) (all_rows old all e.from) (modules new all_new e.to)
-            (λ m i. pair_covered (InModule new e.to) (modules new all_new e.to) n m (row_sound program formed old all sound e.from m i)
-            (λ x k. t.taken e.to _ (record {
-              there = refl;
-              caller = m;
-              image = x;
-              of_callers = subst (λ l. Contains l m) (sym callers_are) i;
-              of_images = k;
-              is = ap (λ y. product y x) (sym extended_is);
-            })) words choice) caller g);
-      }
+      pub return_pushes : (new : State) → All (IsLeadingBasis 289) new.bases → ((u : ℕ) (x : List ℕ) → Returned before extended e.to callers u x → InModule 289 new u x) → Back program e old new n
+      return_pushes new all_new taken =
+          subst (λ kind. BackBy program e.from e.to kind old new n) (sym is)
+          (λ words caller choice g.
+          mapped_into 289 289 (call_of program e.from (matrix_of before words) n) (call_is_linear_in_callers program.registers slots (matrix_of before words) n)
+          (Contains (rows_at old e.from)) (InModule 289 new e.to) (all_rows 289 old.bases all e.from) (modules new all_new e.to)
+          (λ m i. pair_covered (InModule 289 new e.to) (modules new all_new e.to) n m (row_sound program formed old all sound e.from m i)
+          (λ x k. taken e.to _ (record {
+            there = refl;
+            caller = m;
+            image = x;
+            of_callers = subst (λ l. Contains l m) (sym callers_are) i;
+            of_images = k;
+            is = ap (λ y. product y x) (sym extended_is);
+          })) words choice) caller g)

@@ -24,7 +24,7 @@ use Rattle.affine_prog.specs.Spans.{IsMapTo}
 use Rattle.affine_prog.proofs.Lemmas.{step_is_linear}
 use Rattle.affine_prog.proofs.Lemmas.{call_map-affine, call_of_callees, call_of_callers}
 use Rattle.affine_prog.proofs.Lemmas.{level_map}
-use Rattle.call_summaries.specs.NodeRows.{IsSound}
+use Rattle.call_summaries.specs.Sound.{IsSound}
 use Rattle.row_images.specs.Images.{IsConstantRow}
 use Rattle.call_summaries.specs.Pushes.{call_of}
 

@@ -1,7 +1,7 @@
-pub mod Work
-pub mod NodeRows
-pub mod Growth
+pub mod Sound
 pub mod Tables
+pub mod Offers
 pub mod Pushes
-pub mod Solutions
 pub mod Openings
+pub mod Solutions
+pub mod Work

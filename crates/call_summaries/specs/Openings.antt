@@ -2,19 +2,16 @@
 --
 --   AreOpenings registers slots rows   the opening map with 0 in the slots, and for each slot the matrix with 1 in its row and
 --                                      the last column
---   Opens program n wanted old new waiting list before after
---                                      the modules at the entries of the first n procedures have each opening map, where these
---                                      are to be solved, and the rows that it takes are listed
+--   HasOpenings program p s            the module at the entry of procedure p has each opening map
+--   Opens program n wanted s           so it is with the first n procedures, where these are to be solved
 use Rattle.std.specs.Prelude.{◌≡◌, ℕ, ◌<◌, ◌⊎◌, List, Contains, Bool, IsTrue, replicate}
 use Rattle.word_rows.specs.Rows.{IsRow}
 use Rattle.row_modules.specs.Positions.{has}
 use Rattle.affine_prog.specs.declared.Program.{Program}
 use Rattle.affine_prog.specs.Programs.{entry_of, slots_of}
 use Rattle.affine_prog.specs.LevelPaths.{opening_map}
-use Rattle.call_summaries.specs.declared.NodeRow.{NodeRow}
-use Rattle.call_summaries.specs.NodeRows.{InModule}
 use Rattle.row_images.specs.Images.{column}
-use Rattle.call_summaries.specs.Growth.{Lists}
+use Rattle.row_engine.specs.States.{State, InModule}
 use Rattle.call_summaries.specs.Solutions.{IsWanted}
 
 abbrev pub IsSlotRow : ℕ → ℕ → List ℕ → Type 0
@@ -28,14 +25,8 @@ pub record OpeningsFirst (registers slots n : ℕ) (rows : List (List ℕ)) : Ty
 abbrev pub AreOpenings : ℕ → ℕ → List (List ℕ) → Type 0
 AreOpenings registers slots rows = OpeningsFirst registers slots 16 rows
 
-abbrev pub HasOpenings : Program → ℕ → List (List (List ℕ)) → Type 0
-HasOpenings program p bases =
-    (words : List ℕ) → IsRow 16 words → InModule bases (entry_of program p) (opening_map program.registers (slots_of program p) words)
+abbrev pub HasOpenings : Program → ℕ → State → Type 0
+HasOpenings program p s = (words : List ℕ) → IsRow 16 words → InModule 289 s (entry_of program p) (opening_map program.registers (slots_of program p) words)
 
-pub record OpensOne (program : Program) (p : ℕ) (old new : List (List (List ℕ))) (waiting list : List NodeRow) (before after : ℕ) : Type 0 where
-  pub lists : Lists old new waiting list before after
-  pub openings : HasOpenings program p new
-
-pub record Opens (program : Program) (n : ℕ) (wanted : List Bool) (old new : List (List (List ℕ))) (waiting list : List NodeRow) (before after : ℕ) : Type 0 where
-  pub lists : Lists old new waiting list before after
-  pub openings : (p : ℕ) → p < n → IsWanted wanted p → HasOpenings program p new
+abbrev pub Opens : Program → ℕ → List Bool → State → Type 0
+Opens program n wanted s = (p : ℕ) → p < n → IsWanted wanted p → HasOpenings program p s

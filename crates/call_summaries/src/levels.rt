@@ -3,7 +3,8 @@
 ghost use Rattle.std.specs.Prelude.{◌≡◌, ◌+◌, ◌≤◌, IfOk, length, map};
 ghost use Rattle.affine_prog.specs.Programs.{IsWellFormed};
 ghost use Rattle.affine_prog.specs.Spans.{rows_at, AreExits, AreLevels};
-ghost use Rattle.call_summaries.specs.Work.{work_bound, row_count};
+ghost use Rattle.row_engine.specs.States.{row_count};
+ghost use Rattle.call_summaries.specs.Work.{work_bound};
 
 use crate::returning::{all_procs, returning_procs};
 use crate::solve::solve;

@@ -26,13 +26,6 @@ pub use levels::{exits, summaries};
 use map_modules::Mat;
 use sqlite_items::Items;
 
-/// A row that a node's module has gained, and that is still to be pushed along the edges.
-#[derive(Clone, Copy, Debug, PartialEq, Eq)]
-struct NodeRow {
-    node: u32,
-    row: Mat,
-}
-
 /// What is prepared for each edge, and where edges and calls are looked up.
 #[derive(Drop)]
 struct Tables {

@@ -1,46 +1,17 @@
 //! Where edges and calls are looked up.
 
-ghost use Rattle.std.specs.Prelude.{◌≡◌, [], IfOk, length, replicate};
+ghost use Rattle.std.specs.Prelude.{IfOk, length};
 ghost use Rattle.affine_prog.specs.Programs.{IsWellFormed};
-ghost use Rattle.call_summaries.specs.Tables.{LeaveFirst, ReturnFirst, ArePrepared, AreTables};
+ghost use Rattle.call_summaries.specs.Tables.{ReturnFirst, ArePrepared, AreTables};
 
 use crate::Tables;
 use affine_prog::{Kind, Program};
 use lead_basis::Memory;
 use map_modules::Mat;
+use row_engine::{edges_out, empty_lists};
 use row_images::prepare;
 use sqlite_items::Items;
 use std::alloc::Global;
-
-/// An empty list for each node.
-fn empty_lists(alloc: Global, nodes: u32) -> Result<Vec<Items<u32>>, Memory>
-    ensures { IfOk result (λ lists. lists.items ≡ replicate nodes []) }
-{
-    let mut lists = Vec::new(alloc);
-    for _ in 0..nodes {
-        match lists.push(Items::new(alloc)) {
-            Ok(()) => {}
-            Err(_) => return Err(Memory),
-        }
-    }
-    Ok(lists)
-}
-
-/// For each node the edges that leave it.
-fn edges_out(alloc: Global, program: &Program) -> Result<Vec<Items<u32>>, Memory>
-    requires { IsWellFormed program.now }
-    ensures { IfOk result (λ out. LeaveFirst program.now (length program.now.edges) out.items) }
-{
-    let mut out = empty_lists(alloc, program.nodes)?;
-    for k in 0..program.edges.len() {
-        let from = program.edges.as_slice()[k].from;
-        match out[from as usize].push(k as u32) {
-            Ok(()) => {}
-            Err(_) => return Err(Memory),
-        }
-    }
-    Ok(out)
-}
 
 /// For each node the calls of the procedure whose exit it is.
 fn calls_back(alloc: Global, program: &Program) -> Result<Vec<Items<u32>>, Memory>

@@ -1,18 +1,16 @@
 //! Where the worklist starts: the openings of procedures.
 
-ghost use Rattle.std.specs.Prelude.{◌≡◌, ◌<◌, All, IfOk, OnOk, length, bit_and};
-ghost use Rattle.row_modules.specs.Bases.{IsLeadingBasis};
+ghost use Rattle.std.specs.Prelude.{◌≡◌, ◌<◌, IfOk, length, bit_and};
 ghost use Rattle.row_modules.specs.Positions.{has};
 ghost use Rattle.affine_prog.specs.Programs.{IsWellFormed};
-ghost use Rattle.call_summaries.specs.NodeRows.{IsSound};
-ghost use Rattle.call_summaries.specs.Growth.{Grows};
-ghost use Rattle.call_summaries.specs.Openings.{AreOpenings, Opens, OpensOne};
+ghost use Rattle.affine_prog.specs.Spans.{IsMapTo};
+ghost use Rattle.row_engine.specs.Turns.{Grown};
+ghost use Rattle.call_summaries.specs.Openings.{AreOpenings, HasOpenings, Opens};
 
-use crate::NodeRow;
-use crate::take::take_rows;
 use affine_prog::Program;
 use lead_basis::{Memory, Steps};
-use map_modules::{Mat, MatBasis, extend_call, identity};
+use map_modules::{Mat, extend_call, identity};
+use row_engine::Nodes;
 use sqlite_items::Items;
 use std::alloc::Global;
 use std::sync::ledger::Ledger;
@@ -52,20 +50,18 @@ fn open_one<L: Ledger>(
     alloc: Global,
     program: &Program,
     p: usize,
-    bases: &mut Vec<MatBasis>,
-    list: &mut Items<NodeRow>,
+    nodes: &mut Nodes<289>,
     steps: &mut Steps<L>,
 ) -> Result<(), Memory>
     requires formed { IsWellFormed program.now }
     requires proc { p < length program.now.procs }
-    requires nodes { length bases.old.items ≡ program.now.nodes }
-    requires bases { All (IsLeadingBasis 289) bases.old.items }
-    ensures grows { Grows (IsSound program.now) bases.old.items bases.new.items steps.old steps.new }
-    ensures opens { OnOk result (OpensOne program.now p bases.old.items bases.new.items list.old list.new steps.old steps.new) }
+    requires nodes { length nodes.old.bases ≡ program.now.nodes }
+    ensures { Grown 289 (IsMapTo program.now) nodes.old nodes.new result steps.old steps.new (HasOpenings program.now p nodes.new) }
 {
+    nodes.known();
     let proc = program.procs.as_slice()[p];
     let rows = openings(alloc, program.registers, proc.slots)?;
-    take_rows(bases, list, proc.entry, rows.as_slice(), steps)
+    nodes.offer(proc.entry, rows.as_slice(), steps)
 }
 
 /// Offers the openings of each procedure that is to be solved.
@@ -73,20 +69,18 @@ pub(crate) fn open_all<L: Ledger>(
     alloc: Global,
     program: &Program,
     wanted: &[bool],
-    bases: &mut Vec<MatBasis>,
-    list: &mut Items<NodeRow>,
+    nodes: &mut Nodes<289>,
     steps: &mut Steps<L>,
 ) -> Result<(), Memory>
     requires formed { IsWellFormed program.now }
     requires wanted { length wanted.now ≡ length program.now.procs }
-    requires nodes { length bases.old.items ≡ program.now.nodes }
-    requires bases { All (IsLeadingBasis 289) bases.old.items }
-    ensures grows { Grows (IsSound program.now) bases.old.items bases.new.items steps.old steps.new }
-    ensures opens { OnOk result (Opens program.now (length program.now.procs) wanted.now bases.old.items bases.new.items list.old list.new steps.old steps.new) }
+    requires nodes { length nodes.old.bases ≡ program.now.nodes }
+    ensures { Grown 289 (IsMapTo program.now) nodes.old nodes.new result steps.old steps.new (Opens program.now (length program.now.procs) wanted.now nodes.new) }
 {
+    nodes.known();
     for p in 0..program.procs.len() {
         if wanted[p] {
-            open_one(alloc, program, p, bases, list, steps)?;
+            open_one(alloc, program, p, nodes, steps)?;
         }
     }
     Ok(())

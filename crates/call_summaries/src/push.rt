@@ -1,21 +1,23 @@
 //! What one edge makes of a row, offered to its end.
 
-ghost use Rattle.std.specs.Prelude.{◌≡◌, ◌<◌, ℕ, List, All, Contains, IfOk, OnOk, length, bit_and};
-ghost use Rattle.row_modules.specs.Bases.{IsLeadingBasis};
+ghost use Rattle.std.specs.Prelude.{◌≡◌, ◌<◌, ℕ, List, All, Contains, IfOk, length, bit_and};
 ghost use Rattle.affine_prog.specs.Assignments.{position_of};
 ghost use Rattle.affine_prog.specs.Programs.{exit_of, owner_of, slots_of, IsWellFormed};
-ghost use Rattle.affine_prog.specs.Spans.{rows_at};
+ghost use Rattle.affine_prog.specs.Spans.{IsMapTo};
 ghost use Rattle.row_images.specs.Images.{IsConstantRow, IsPrepared};
-ghost use Rattle.call_summaries.specs.NodeRows.{AreSound, IsSound};
-ghost use Rattle.call_summaries.specs.Growth.{Returned, Grows, Takes};
-ghost use Rattle.call_summaries.specs.Tables.{assigns_of, ReturnsTo};
-ghost use Rattle.call_summaries.specs.Pushes.{PushesForward, PushesBack};
+ghost use Rattle.row_engine.specs.States.{rows_at};
+ghost use Rattle.row_engine.specs.Growth.{Takes};
+ghost use Rattle.row_engine.specs.Turns.{Grown};
+ghost use Rattle.call_summaries.specs.Sound.{AreSound, IsSound, IsReturned};
+ghost use Rattle.call_summaries.specs.Offers.{Returned};
+ghost use Rattle.call_summaries.specs.Tables.{assigns_of};
+ghost use Rattle.call_summaries.specs.Pushes.{Forward, Back};
 
-use crate::NodeRow;
-use crate::take::{take_calls, take_products, take_rows};
+use crate::take::{take_calls, take_products};
 use affine_prog::{Assign, Edge, Kind, Program};
 use lead_basis::{Memory, Steps};
-use map_modules::{Mat, MatBasis, extend_call};
+use map_modules::{Mat, extend_call};
+use row_engine::Nodes;
 use row_images::images_along;
 use sqlite_items::Items;
 use std::alloc::Global;
@@ -47,11 +49,11 @@ fn exit_of(program: &Program, callee: u32) -> u32
 }
 
 /// A copy of the rows of a node.
-fn rows_of(alloc: Global, bases: &[MatBasis], node: u32) -> Result<Items<Mat>, Memory>
-    requires { node < length bases.now }
-    ensures { IfOk result (λ rows. rows ≡ rows_at bases.now node) }
+fn rows_of(alloc: Global, nodes: &Nodes<289>, node: u32) -> Result<Items<Mat>, Memory>
+    requires { node < length nodes.now.bases }
+    ensures { IfOk result (λ rows. rows ≡ rows_at nodes.now node) }
 {
-    match Items::from_slice(alloc, bases[node as usize].rows()) {
+    match Items::from_slice(alloc, nodes.rows(node)) {
         Ok(rows) => Ok(rows),
         Err(_) => Err(Memory),
     }
@@ -63,34 +65,31 @@ pub(crate) fn push_forward<L: Ledger>(
     program: &Program,
     edge: &Edge,
     prepared: &[Mat],
-    bases: &mut Vec<MatBasis>,
-    list: &mut Items<NodeRow>,
+    nodes: &mut Nodes<289>,
     row: &Mat,
     steps: &mut Steps<L>,
 ) -> Result<(), Memory>
     requires formed { IsWellFormed program.now }
     requires edge { Contains program.now.edges edge.now }
     requires prepared { IsPrepared (assigns_of edge.now.kind) prepared.now }
-    requires nodes { length bases.old.items ≡ program.now.nodes }
-    requires bases { All (IsLeadingBasis 289) bases.old.items }
-    requires sound { AreSound program.now bases.old.items }
+    requires nodes { length nodes.old.bases ≡ program.now.nodes }
+    requires sound { AreSound program.now nodes.old }
     requires own { IsSound program.now edge.now.from row.now }
-    ensures grows { Grows (IsSound program.now) bases.old.items bases.new.items steps.old steps.new }
-    ensures pushes { OnOk result (PushesForward program.now edge.now bases.old.items bases.new.items row.now list.old list.new steps.old steps.new) }
+    ensures { Grown 289 (IsMapTo program.now) nodes.old nodes.new result steps.old steps.new (Forward program.now edge.now nodes.old nodes.new row.now) }
 {
+    nodes.known();
     match &edge.kind {
         Kind::Do(assigns) => {
             let images = images_along(alloc, assigns.as_slice(), prepared, row)?;
-            take_rows(bases, list, edge.to, images.as_slice(), steps)
+            nodes.offer(edge.to, images.as_slice(), steps)
         }
         Kind::Call { callee, before } => {
             let images = images_along(alloc, before.as_slice(), prepared, row)?;
-            let callees = rows_of(alloc, bases, exit_of(program, *callee))?;
+            let callees = rows_of(alloc, nodes, exit_of(program, *callee))?;
             let sets = sets_at(program, edge.from);
             take_calls(
                 alloc,
-                bases,
-                list,
+                nodes,
                 edge.to,
                 sets,
                 callees.as_slice(),
@@ -106,8 +105,7 @@ fn take_callers<L: Ledger>(
     alloc: Global,
     before: &[Assign],
     prepared: &[Mat],
-    bases: &mut Vec<MatBasis>,
-    list: &mut Items<NodeRow>,
+    nodes: &mut Nodes<289>,
     to: u32,
     extended: &Mat,
     callers: &[Mat],
@@ -116,14 +114,13 @@ fn take_callers<L: Ledger>(
     requires placed { All (λ a. position_of a < 16) before.now }
     requires prepared { IsPrepared before.now prepared.now }
     requires callers { (m : List ℕ) → Contains callers.now m → IsConstantRow 17 m }
-    requires to { to < length bases.old.items }
-    requires bases { All (IsLeadingBasis 289) bases.old.items }
-    ensures grows { Grows (Returned before.now extended.now to callers.now) bases.old.items bases.new.items steps.old steps.new }
-    ensures takes { OnOk result (Takes (Returned before.now extended.now to callers.now) bases.old.items bases.new.items list.old list.new steps.old steps.new) }
+    requires to { to < length nodes.old.bases }
+    ensures { Takes 289 (Returned before.now extended.now to callers.now) nodes.old nodes.new result steps.old steps.new }
 {
+    nodes.known();
     for caller in callers {
         let images = images_along(alloc, before, prepared, caller)?;
-        take_products(alloc, bases, list, to, extended, images.as_slice(), steps)?;
+        take_products(alloc, nodes, to, extended, images.as_slice(), steps)?;
     }
     Ok(())
 }
@@ -134,34 +131,30 @@ pub(crate) fn push_back<L: Ledger>(
     program: &Program,
     edge: &Edge,
     prepared: &[Mat],
-    bases: &mut Vec<MatBasis>,
-    list: &mut Items<NodeRow>,
-    row: &NodeRow,
+    nodes: &mut Nodes<289>,
+    row: &Mat,
     steps: &mut Steps<L>,
 ) -> Result<(), Memory>
     requires formed { IsWellFormed program.now }
     requires edge { Contains program.now.edges edge.now }
-    requires returns { ReturnsTo program.now row.now.node edge.now.kind }
     requires prepared { IsPrepared (assigns_of edge.now.kind) prepared.now }
-    requires nodes { length bases.old.items ≡ program.now.nodes }
-    requires bases { All (IsLeadingBasis 289) bases.old.items }
-    requires sound { AreSound program.now bases.old.items }
-    requires own { IsSound program.now row.now.node row.now.row }
-    ensures grows { Grows (IsSound program.now) bases.old.items bases.new.items steps.old steps.new }
-    ensures pushes { OnOk result (PushesBack program.now edge.now bases.old.items bases.new.items row.now.row list.old list.new steps.old steps.new) }
+    requires nodes { length nodes.old.bases ≡ program.now.nodes }
+    requires sound { AreSound program.now nodes.old }
+    requires own { IsReturned program.now edge.now.kind row.now }
+    ensures { Grown 289 (IsMapTo program.now) nodes.old nodes.new result steps.old steps.new (Back program.now edge.now nodes.old nodes.new row.now) }
 {
+    nodes.known();
     match &edge.kind {
         Kind::Do(_) => Ok(()),
         Kind::Call { before, .. } => {
             let sets = sets_at(program, edge.from);
-            let extended = extend_call(&row.row, sets.0, sets.1);
-            let callers = rows_of(alloc, bases, edge.from)?;
+            let extended = extend_call(row, sets.0, sets.1);
+            let callers = rows_of(alloc, nodes, edge.from)?;
             take_callers(
                 alloc,
                 before.as_slice(),
                 prepared,
-                bases,
-                list,
+                nodes,
                 edge.to,
                 &extended,
                 callers.as_slice(),

@@ -1,33 +1,20 @@
-//! The engine: bases at the nodes of chosen procedures.
+//! Bases at the nodes of chosen procedures.
 
-ghost use Rattle.std.specs.Prelude.{◌≡◌, ◌+◌, ◌≤◌, [], IfOk, length, replicate};
+ghost use Rattle.std.specs.Prelude.{◌≡◌, ◌+◌, ◌≤◌, IfOk, length};
 ghost use Rattle.affine_prog.specs.Programs.{IsWellFormed};
-ghost use Rattle.call_summaries.specs.Work.{work_bound, row_count};
+ghost use Rattle.row_engine.specs.States.{row_count};
+ghost use Rattle.call_summaries.specs.Work.{work_bound};
 ghost use Rattle.call_summaries.specs.Solutions.{OthersStay, IsSolved};
 
 use crate::lookups::tables_of;
 use crate::openings::open_all;
-use crate::worklist::push_row;
+use crate::worklist::ProgramMoves;
 use affine_prog::{Program, paths_end_at_nodes};
 use lead_basis::{Memory, Steps};
 use map_modules::MatBasis;
-use sqlite_items::Items;
+use row_engine::{Nodes, close};
 use std::alloc::Global;
 use std::sync::ledger::Ledger;
-
-/// A basis without rows for each node.
-fn empty_bases(alloc: Global, nodes: u32) -> Result<Vec<MatBasis>, Memory>
-    ensures { IfOk result (λ bases. bases.items ≡ replicate nodes []) }
-{
-    let mut bases = Vec::new(alloc);
-    for _ in 0..nodes {
-        match bases.push(MatBasis::new(alloc)) {
-            Ok(()) => {}
-            Err(_) => return Err(Memory),
-        }
-    }
-    Ok(bases)
-}
 
 /// For each node a basis: of the module of the maps of the level paths to it, where its procedure is wanted. A procedure that
 /// isn't wanted must have no level path to its exit, and its nodes have bases without rows.
@@ -47,12 +34,12 @@ pub(crate) fn solve<L: Ledger>(
 {
     paths_end_at_nodes();
     let tables = tables_of(alloc, program)?;
-    let mut bases = empty_bases(alloc, program.nodes)?;
-    let mut list = Items::new(alloc);
-    open_all(alloc, program, wanted, &mut bases, &mut list, steps)?;
-    while let Some(row) = list.pop() {
-        row.row.known();
-        push_row(alloc, program, &tables, &mut bases, &mut list, &row, steps)?;
-    }
-    Ok(bases)
+    let mut nodes = Nodes::<289>::new(alloc, program.nodes)?;
+    open_all(alloc, program, wanted, &mut nodes, steps)?;
+    let moves = ProgramMoves {
+        program,
+        tables: &tables,
+    };
+    close(alloc, &moves, &mut nodes, steps)?;
+    Ok(nodes.into_bases())
 }

@@ -28,4 +28,5 @@ pub mod Annihilating
 pub mod Insertion
 pub mod Existence
 pub mod Marked
+pub mod Writing
 pub mod Laws

@@ -5,3 +5,4 @@ pub mod Annihilators
 pub mod Mirrors
 pub mod Relations
 pub mod Whole
+pub mod Marks

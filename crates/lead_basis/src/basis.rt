@@ -6,6 +6,7 @@ ghost use Rattle.word_rows.specs.Rows.{lead, pivot};
 ghost use Rattle.row_modules.specs.Bases.{IsLeadingBasis, IsReduced, basis_length, used_positions};
 ghost use Rattle.row_modules.specs.Modules.{IsCombination, IsWithin, SameModule};
 ghost use Rattle.lead_basis.specs.Inserts.{Adds};
+ghost use Rattle.lead_basis.specs.Marks.{Writes};
 
 use crate::multiples::take_multiples;
 use crate::place::place;
@@ -96,20 +97,33 @@ impl<const N: usize> Basis<N> {
     /// module grew. Out of memory, which never comes for a row of the module, the module lies between the two.
     /// The counter rises by at least 1 where the module grew and by 0 where it didn't, by at least the gain in rows, and
     /// never by more than the gain in length.
-    pub fn insert<L: Ledger>(
+    pub fn insert<L: Ledger>(&mut self, row: Row<N>, steps: &mut Steps<L>) -> Result<bool, Memory>
+        ensures same_module { OnOk result (SameModule N (Contains self.new) (Contains (row.entry ∷ self.old))) }
+        ensures grew { IfOk result (λ grew. IsTrue grew ↔ ¬ IsWithin N (Contains self.new) (Contains self.old)) }
+        ensures adds { Adds N self.old row.entry self.new result steps.old steps.new }
+    {
+        let mut marks = Row::zero();
+        self.insert_marked(row, &mut marks, steps)
+    }
+
+    /// Adds a row, and marks the rows that it writes, by their leads: what is unmarked is a row of the old basis, unchanged, and
+    /// was unmarked before. Where the module doesn't grow, the marks stay.
+    pub fn insert_marked<L: Ledger>(
         &mut self,
         mut row: Row<N>,
+        marks: &mut Row<N>,
         steps: &mut Steps<L>,
     ) -> Result<bool, Memory>
         ensures same_module { OnOk result (SameModule N (Contains self.new) (Contains (row.entry ∷ self.old))) }
         ensures grew { IfOk result (λ grew. IsTrue grew ↔ ¬ IsWithin N (Contains self.new) (Contains self.old)) }
         ensures adds { Adds N self.old row.entry self.new result steps.old steps.new }
+        ensures writes { Writes self.old self.new result marks.old marks.new }
     {
         row.known();
         if is_on(&row, &self.whole) {
             return Ok(false);
         }
-        let grew = place(&mut self.rows, 0, &mut row, steps)?;
+        let grew = place(&mut self.rows, 0, &mut row, marks, steps)?;
         look(&self.rows, &mut self.whole, &mut self.looked, grew);
         Ok(grew)
     }

@@ -4,6 +4,7 @@ ghost use Rattle.std.specs.Prelude.{◌≡◌, ◌≢◌, ◌<◌, ◌≤◌, �
 ghost use Rattle.word_rows.specs.Rows.{lead, pivot};
 ghost use Rattle.row_modules.specs.Bases.{IsLeadingBasis};
 ghost use Rattle.lead_basis.specs.Inserts.{AddsFrom, HasLead, LacksLead};
+ghost use Rattle.lead_basis.specs.Marks.{Marks, Writes};
 
 use crate::multiples::{closing, divides, normal, take_multiple};
 use crate::{Memory, Steps};
@@ -39,17 +40,31 @@ fn find_lead<const N: usize>(rows: &[Row<N>], from: usize, position: usize) -> R
     }
 }
 
-/// Adds a row to those from `from` on, and leaves in its place what is left of it.
+/// Marks the lead of a row.
+fn mark<const N: usize>(row: &Row<N>, marks: &mut Row<N>)
+    ensures { Marks N row.now marks.old marks.new }
+{
+    row.known();
+    marks.known();
+    if let Some(lead) = row.lead() {
+        *marks = marks.with(lead, 1);
+    }
+}
+
+/// Adds a row to those from `from` on, and leaves in its place what is left of it. The rows that it writes are
+/// marked.
 #[cycle(place)]
 pub(crate) fn place<const N: usize, L: Ledger>(
     rows: &mut Vec<Row<N>>,
     from: usize,
     row: &mut Row<N>,
+    marks: &mut Row<N>,
     steps: &mut Steps<L>,
 ) -> Result<bool, Memory>
     requires within { from ≤ vec_len rows.old }
     requires basis { IsLeadingBasis N (drop from rows.old.items) }
-    ensures { AddsFrom N from rows.old.items row.old rows.new.items result steps.old steps.new }
+    ensures adds { AddsFrom N from rows.old.items row.old rows.new.items result steps.old steps.new }
+    ensures writes { Writes rows.old.items rows.new.items result marks.old marks.new }
 {
     row.known();
     let Some(lead) = row.lead() else {
@@ -59,12 +74,12 @@ pub(crate) fn place<const N: usize, L: Ledger>(
         Ok(at) => {
             if divides(&rows[at], row) {
                 take_multiple(row, &rows[at]);
-                place(rows, at + 1, row, steps)
+                place(rows, at + 1, row, marks, steps)
             } else {
-                exchange(rows, at, row, steps)
+                exchange(rows, at, row, marks, steps)
             }
         }
-        Err(at) => add(rows, at, row, steps),
+        Err(at) => add(rows, at, row, marks, steps),
     }
 }
 
@@ -74,19 +89,22 @@ fn add<const N: usize, L: Ledger>(
     rows: &mut Vec<Row<N>>,
     at: usize,
     row: &Row<N>,
+    marks: &mut Row<N>,
     steps: &mut Steps<L>,
 ) -> Result<bool, Memory>
     requires within { at ≤ vec_len rows.old }
     requires basis { IsLeadingBasis N (drop at rows.old.items) }
     requires some { lead row.now < N }
     requires later { All (λ r. lead row.now < lead r) (drop at rows.old.items) }
-    ensures { AddsFrom N at rows.old.items row.now rows.new.items result steps.old steps.new }
+    ensures adds { AddsFrom N at rows.old.items row.now rows.new.items result steps.old steps.new }
+    ensures writes { Writes rows.old.items rows.new.items result marks.old marks.new }
 {
     row.known();
     let own = normal(row);
-    place(rows, at, &mut closing(&own), steps)?;
+    place(rows, at, &mut closing(&own), marks, steps)?;
     match rows.insert(at, own) {
         Ok(()) => {
+            mark(row, marks);
             steps.tick();
             Ok(true)
         }
@@ -100,20 +118,23 @@ fn exchange<const N: usize, L: Ledger>(
     rows: &mut Vec<Row<N>>,
     at: usize,
     row: &Row<N>,
+    marks: &mut Row<N>,
     steps: &mut Steps<L>,
 ) -> Result<bool, Memory>
     requires within { at < vec_len rows.old }
     requires basis { IsLeadingBasis N (drop at rows.old.items) }
     requires same_lead { HoldsAt (λ r. lead r ≡ lead row.now) rows.old.items at }
     requires left_over { HoldsAt (λ r. slice_index row.now (lead row.now) % pivot r ≢ 0) rows.old.items at }
-    ensures { AddsFrom N at rows.old.items row.now rows.new.items result steps.old steps.new }
+    ensures adds { AddsFrom N at rows.old.items row.now rows.new.items result steps.old steps.new }
+    ensures writes { Writes rows.old.items rows.new.items result marks.old marks.new }
 {
     row.known();
     let own = normal(row);
     let mut rest = rows[at];
     take_multiple(&mut rest, &own);
-    place(rows, at + 1, &mut rest, steps)?;
+    place(rows, at + 1, &mut rest, marks, steps)?;
     rows[at] = own;
+    mark(row, marks);
     steps.tick();
     Ok(true)
 }

@@ -11,8 +11,7 @@ use Rattle.affine_prog.specs.Laws.{IsOpening}
 use Rattle.row_images.specs.States.{Makes, Spans, IsMatrixOf}
 use Rattle.reach_modules.specs.Made.{MakesEach}
 use Rattle.reach_modules.specs.Moves.{IsReturn}
-use Rattle.reach_modules.specs.Offers.{offer}
-use Rattle.reach_modules.specs.Worklists.{EdgeOffers}
+use Rattle.reach_modules.specs.Offers.{offer, EdgeOffers}
 use Rattle.reach_modules.proofs.Spanning.{spans_after}
 use Rattle.reach_modules.proofs.Lookups.{edge_in, entry_at}
 use Rattle.reach_modules.proofs.Offering.{step_offered, call_offered}

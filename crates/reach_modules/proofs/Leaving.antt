@@ -9,11 +9,11 @@ use Rattle.affine_prog.specs.declared.Kind.TheVariants.{Do}
 use Rattle.affine_prog.specs.Programs.{edge}
 use Rattle.reach_modules.specs.declared.Offer.{Offer}
 use Rattle.row_images.specs.States.{Makes}
+use Rattle.row_engine.specs.Tables.{edge_at, AreOut}
 use Rattle.reach_modules.specs.Moves.{EdgeMap, Moves}
-use Rattle.reach_modules.specs.Offers.{offer, IsListed, IsOffer}
-use Rattle.reach_modules.specs.Tables.{edge_at, AreOut, AlongSome}
-use Rattle.reach_modules.specs.Worklists.{EdgeOffers, AlongOffers, Pushes}
-use Rattle.reach_modules.proofs.Membership.{nothing_in, first_in, first_or_later_in}
+use Rattle.reach_modules.specs.Offers.{offer, IsListed, IsOffer, EdgeOffers, AlongOffers, RowOffers}
+use Rattle.reach_modules.specs.Tables.{AlongSome}
+use Rattle.row_engine.proofs.Members.{nothing_in, first_in, first_or_later_in}
 use Rattle.reach_modules.proofs.InTurn.{offered_rows}
 use Rattle.reach_modules.proofs.Spanning.{made_are_rows}
 
@@ -60,7 +60,7 @@ module _ (program : Program) (v : List ℕ) where
       only j i = elim (first_or_later_in k [] j i) [ inl e ↦ e | inr none ↦ absurd (nothing_in j none) ]
 
   -- all edges that leave a node
-  pub along_all : (u : ℕ) (out : List (List ℕ)) (ks : List ℕ) (offers : List Offer) → AreOut program out → ks ≡ get_or out u [] → AlongOffers program ks v offers → Pushes program u v offers
+  pub along_all : (u : ℕ) (out : List (List ℕ)) (ks : List ℕ) (offers : List Offer) → AreOut program out → ks ≡ get_or out u [] → AlongOffers program ks v offers → RowOffers program u v offers
   along_all u out ks offers are is so_far = record {
     are = so_far.are;
     spans = λ w. record {

@@ -6,7 +6,6 @@ mod Slots
 mod Openings
 mod Returning
 mod Moving
-mod Taking
 mod InTurn
 mod Offering
 mod Leaving
@@ -14,9 +13,7 @@ mod Lookups
 mod Along
 mod Starts
 mod Sounding
-mod Working
 mod Ending
-mod Turning
 mod Placing
-mod Starting
 mod Bounding
+mod Starting

@@ -16,7 +16,9 @@ use Rattle.affine_prog.proofs.Lemmas.{step_placed, call_placed}
 use Rattle.affine_prog.specs.Laws.{IsOpening}
 use Rattle.reach_modules.specs.Made.{MakesEach, opened_of, returned_of}
 use Rattle.reach_modules.specs.Moves.{IsReturn}
-use Rattle.reach_modules.specs.Tables.{edge_at, AreOut, ArePositions}
+use Rattle.row_engine.specs.Tables.{edge_at, AreOut}
+use Rattle.row_engine.proofs.ByNode.{found}
+use Rattle.reach_modules.specs.Tables.{ArePositions}
 use Rattle.reach_modules.proofs.Returning.{returned_spans}
 use Rattle.reach_modules.proofs.Openings.{opened_spans}
 
@@ -59,9 +61,6 @@ module _ (program : Program) (formed : IsWellFormed program) where
     is = is ∙ ap (λ x. flat_map (opened_of x keep) rows) same;
     each = λ v row. opened_spans program.registers (slots_of program q) slots keep v (apart q below) (subst (λ x. ArePositions x slots) sets are) (keeps ∙ ap (λ x. linear_extension x 0 one) registers ∙ ap (linear_extension program.registers 0) is_one) row;
   }
-
-pub found : (lists : List (List ℕ)) (u n : ℕ) (x y : List ℕ) → u < n → length lists ≡ n → x ≡ get_or lists u x → y ≡ x → y ≡ get_or lists u []
-found lists u n x y below long is same = same ∙ is ∙ get_or_default lists u x [] (omega arith)
 
 pub positions_below : (s : ℕ) (slots given : List ℕ) → ArePositions s slots → given ≡ slots → All (λ k. k < 17) given
 positions_below s slots given are same =

@@ -12,9 +12,8 @@ use Rattle.affine_prog.specs.Laws.{IsOpening}
 use Rattle.row_images.specs.States.{Makes, Spans, IsMatrixOf}
 use Rattle.reach_modules.specs.Made.{After}
 use Rattle.reach_modules.specs.Moves.{IsReturn, EdgeMap}
-use Rattle.reach_modules.specs.Offers.{offer, IsListed, IsOffer}
-use Rattle.reach_modules.specs.Worklists.{EdgeOffers}
-use Rattle.reach_modules.proofs.Membership.{map_in, map_out}
+use Rattle.reach_modules.specs.Offers.{offer, IsListed, IsOffer, EdgeOffers}
+use Rattle.row_engine.proofs.Members.{map_in, map_out}
 use Rattle.reach_modules.proofs.InTurn.{offered_rows}
 use Rattle.reach_modules.proofs.Spanning.{made_are_rows}
 

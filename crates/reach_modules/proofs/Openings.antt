@@ -13,7 +13,7 @@ use Rattle.affine_prog.proofs.Lemmas.{openings_span}
 use Rattle.row_images.specs.States.{Makes, Spans}
 use Rattle.reach_modules.specs.Made.{alone, opened_of}
 use Rattle.reach_modules.specs.Tables.{ArePositions}
-use Rattle.reach_modules.proofs.Membership.{map_in, map_out}
+use Rattle.row_engine.proofs.Members.{map_in, map_out}
 use Rattle.reach_modules.proofs.Alone.{zeros_alone}
 use Rattle.reach_modules.proofs.Spanning.{unless_zero}
 use Rattle.reach_modules.proofs.Slots.{one_slot, same_kept, not_in_both}

@@ -3,7 +3,7 @@ use Rattle.std.proofs.Common.{◌≡◌, ℕ, ◌+◌, ◌<◌, ◌↔◌, inl, 
 use Rattle.std.proofs.lemmas.Bool.{cases_lt, false≢true}
 use Rattle.std.proofs.lemmas.List.Elements.{Contains-append_left, Contains-append_right, Contains-append_cases}
 use Rattle.row_modules.specs.Positions.{has}
-use Rattle.reach_modules.proofs.Membership.{nothing_in, first_in, first_or_later_in}
+use Rattle.row_engine.proofs.Members.{nothing_in, first_in, first_or_later_in}
 
 module _ (set i : ℕ) (old : List ℕ) (so_far : (k : ℕ) → Contains old k ↔ ((k < i) × IsTrue (has set k))) where
   with_position : has set i ≡ true → (k : ℕ) → Contains (old ++ i ∷ []) k ↔ ((k < i + 1) × IsTrue (has set k))

@@ -13,7 +13,7 @@ use Rattle.affine_prog.proofs.Lemmas.{level_map}
 use Rattle.row_images.specs.States.{Makes, Spans}
 use Rattle.reach_modules.specs.Made.{returned_of}
 use Rattle.reach_modules.specs.Moves.{IsReturn}
-use Rattle.reach_modules.proofs.Membership.{map_in, map_out}
+use Rattle.row_engine.proofs.Members.{map_in, map_out}
 use Rattle.reach_modules.proofs.Spanning.{made_are_rows}
 
 module _ (registers slots : ℕ) (v : List ℕ) where

@@ -1,103 +1,58 @@
 -- The loop's start: bases without rows take what starts.
-use Rattle.std.proofs.Common.{◌≡◌, ℕ, zero, suc, inl, inr, List, [], ◌∷◌, ◌++◌, Contains, All, length, get_or, replicate, map, refl, ap, subst, ◌∙◌}
-use Rattle.std.proofs.lemmas.List.{length-replicate}
-use Rattle.std.proofs.lemmas.List.Elements.{All-nil, All-cons, All-weaker, All-contains_itself, All-contains}
-use Rattle.row_modules.specs.Modules.{Either, IsCombination}
+use Rattle.std.proofs.Common.{◌≡◌, ℕ, ◌<◌, List, [], ◌∷◌, ◌++◌, All, Contains, length, map, Result, refl, ap, sym, subst, ◌∙◌, arith}
+use Rattle.row_modules.specs.Modules.{IsCombination}
 use Rattle.row_modules.specs.Bases.{IsLeadingBasis}
-use Rattle.row_modules.proofs.Laws.{combinations, module_least, spans_more}
+use Rattle.row_modules.proofs.Laws.{generator, combinations, module_least}
 use Rattle.affine_prog.specs.declared.Program.{Program}
-use Rattle.affine_prog.specs.declared.Proc.{Proc}
 use Rattle.affine_prog.specs.Programs.{entry_of, slots_of, IsWellFormed}
 use Rattle.affine_prog.specs.OpenPaths.{Start}
 use Rattle.affine_prog.specs.Laws.{IsOpening}
-use Rattle.affine_prog.specs.Spans.{rows_at, IsStateAt}
-use Rattle.reach_modules.specs.declared.Offer.{Offer}
+use Rattle.affine_prog.specs.Spans.{IsStateAt}
+use Rattle.row_images.specs.States.{Spans}
+use Rattle.row_engine.specs.States.{State, rows_at, InModule, begin}
+use Rattle.row_engine.specs.Growth.{Offered, Takes}
+use Rattle.row_engine.specs.Turns.{Grown}
+use Rattle.row_engine.proofs.Members.{all_rows}
+use Rattle.row_engine.proofs.Pushing.{grown_by}
+use Rattle.row_engine.proofs.Starting.{begin_is}
 use Rattle.reach_modules.specs.Made.{MakesEach, alone, opened}
 use Rattle.reach_modules.specs.Moves.{IsFirst}
-use Rattle.reach_modules.specs.Offers.{offer, IsListed, IsOffer, InModule, Keeps, Takes}
 use Rattle.reach_modules.specs.Tables.{ArePositions}
-use Rattle.reach_modules.specs.Worklists.{IsSound, Works}
-use Rattle.reach_modules.specs.Starts.{Begins}
-use Rattle.reach_modules.proofs.Membership.{nothing_in}
 use Rattle.reach_modules.proofs.Spanning.{spans_products, products_are_rows}
 use Rattle.reach_modules.proofs.Starts.{units_span, starts_are_rows}
-use Rattle.reach_modules.proofs.Offering.{offers_are, offered_sound, offered_all}
-use Rattle.reach_modules.proofs.InTurn.{all_rows}
 use Rattle.reach_modules.proofs.Moving.{first_state}
-use Rattle.reach_modules.proofs.Lookups.{entry_at}
-use Rattle.reach_modules.proofs.Sounding.{sound_with}
+use Rattle.reach_modules.proofs.Sounding.{states_are_rows}
 
 -- what is offered first
-pub begins : (program : Program) → IsWellFormed program → (registers given : List ℕ) (none starts listed rows rows_listed : List (List ℕ)) (empty offers : List Offer) (entry : ℕ) (procs : List Proc) (d : Proc)
-    → ArePositions program.registers registers → given ≡ registers → none ≡ [] → starts ≡ none ++ opened given (alone 16 1) 1 → listed ≡ starts → MakesEach (IsOpening program.registers (slots_of program program.start)) listed rows
-    → rows_listed ≡ rows → procs ≡ program.procs → entry ≡ (get_or procs program.start d).entry → empty ≡ [] → offers ≡ empty ++ map (λ v. offer entry v) rows_listed → Begins program offers
-begins program formed registers given none starts listed rows rows_listed empty offers entry procs d are same nothing starts_are listed_is each rows_are procs_are entry_is no_offers is =
+pub firsts_span : (program : Program) → (registers given : List ℕ) (none starts listed rows : List (List ℕ)) → ArePositions program.registers registers → given ≡ registers → none ≡ []
+    → starts ≡ none ++ opened given (alone 16 1) 1 → listed ≡ starts → MakesEach (IsOpening program.registers (slots_of program program.start)) listed rows → Spans rows (IsFirst program)
+firsts_span program registers given none starts listed rows are same nothing starts_are listed_is each =
     let e : starts ≡ alone 16 1 ∷ map (λ k. alone k 1) registers = starts_are ∙ ap (λ l. l ++ opened given (alone 16 1) 1) nothing ∙ ap (λ ks. opened ks (alone 16 1) 1) same in
-    record {
-      rows = rows;
-      spans = spans_products (IsOpening program.registers (slots_of program program.start)) (Start program) (starts_are_rows program) (alone 16 1 ∷ map (λ k. alone k 1) registers) rows (units_span program registers are)
-          (subst (λ l. MakesEach (IsOpening program.registers (slots_of program program.start)) l rows) (listed_is ∙ e) each);
-      is = is ∙ ap (λ os. os ++ map (λ v. offer entry v) rows_listed) no_offers ∙ ap (map (λ v. offer entry v)) rows_are
-          ∙ ap (λ n. map (λ v. offer n v) rows) (entry_is ∙ entry_at program formed program.start procs d formed.start procs_are);
-    }
+    spans_products (IsOpening program.registers (slots_of program program.start)) (Start program) (starts_are_rows program) (alone 16 1 ∷ map (λ k. alone k 1) registers) rows (units_span program registers are)
+    (subst (λ l. MakesEach (IsOpening program.registers (slots_of program program.start)) l rows) (listed_is ∙ e) each)
 
--- bases without rows
-pub no_rows_at : (n u : ℕ) → rows_at (replicate n []) u ≡ []
-no_rows_at zero u = refl
-no_rows_at (suc n) zero = refl
-no_rows_at (suc n) (suc u) = no_rows_at n u
+module _ (program : Program) (formed : IsWellFormed program) (rows given : List (List ℕ)) (spans : Spans rows (IsFirst program)) (same : given ≡ rows) (entry : ℕ) (entry_is : entry ≡ entry_of program program.start) where
+  firsts_sound : (w : ℕ) (x : List ℕ) → Offered 17 entry given w x → IsCombination 17 (IsStateAt program w) x
+  firsts_sound w x h =
+      let e = entry_of program program.start in let there = h.0 ∙ entry_is in let are = states_are_rows program formed e in
+      rw there (module_least 17 (IsCombination 17 (IsStateAt program e)) (combinations 17 (IsStateAt program e) are) (IsFirst program)
+      (λ y f. generator 17 (IsStateAt program e) are y (first_state program formed y f)) x
+      (spans.same.there x (generator 17 (Contains rows) spans.rows_are x (subst (λ l. Contains l x) same h.2))))
 
-pub none_lead : (n : ℕ) → All (IsLeadingBasis 17) (replicate n [])
-none_lead zero = All-nil (IsLeadingBasis 17)
-none_lead (suc n) = All-cons (IsLeadingBasis 17) [] (replicate n []) tt (none_lead n)
+  -- the first states are in the module of the entry
+  firsts_in : (new : State) → All (IsLeadingBasis 17) new.bases → ((u : ℕ) (v : List ℕ) → Offered 17 entry given u v → InModule 17 new u v)
+      → (v : List ℕ) → IsFirst program v → InModule 17 new (entry_of program program.start) v
+  firsts_in new all taken v f =
+      let e = entry_of program program.start in
+      module_least 17 (InModule 17 new e) (combinations 17 (Contains (rows_at new e)) (all_rows 17 new.bases all e)) (Contains rows)
+      (λ x h. subst (λ u. InModule 17 new u x) entry_is (taken entry x (refl, spans.rows_are x h, subst (λ l. Contains l x) (sym same) h))) v
+      (spans.same.back v (generator 17 (IsFirst program) (products_are_rows (IsOpening program.registers (slots_of program program.start)) (Start program)) v f))
 
-module _ (program : Program) (formed : IsWellFormed program) (firsts : List Offer) (b : Begins program firsts) where
-  abbrev entry : ℕ
-  entry = entry_of program program.start
+  pub begun : {X E : Type 0} (old : State) → old ≡ begin 17 program.nodes → (new : State) (before after : ℕ) {result : Result X E} → Takes 17 (Offered 17 entry given) old new result before after
+      → Grown 17 (IsStateAt program) old new result before after ((v : List ℕ) → IsFirst program v → InModule 17 new (entry_of program program.start) v)
+  begun old is new before after takes =
+      grown_by firsts_sound (firsts_in new (takes.grows.leading (subst (λ (s : State). All (IsLeadingBasis 17) s.bases) (sym is) (begin_is 17 program.nodes).leading))) takes
 
-  pub firsts_are : All (IsOffer program.nodes) firsts
-  firsts_are = rw b.is (offers_are entry b.rows (IsFirst program) b.spans program.nodes (formed.procs program.start formed.start).entry)
-
-  first_sound : (w : ℕ) (x : List ℕ) → IsListed firsts w x → IsCombination 17 (IsStateAt program w) x
-  first_sound w x h =
-      let i = offered_sound entry b.rows (IsFirst program) b.spans w x (subst (λ os. IsListed os w x) b.is h) in
-      let e = i.0 in
-      rw e (spans_more 17 (IsFirst program) (IsStateAt program entry) (first_state program formed) x i.1)
-
-  module _ (bases new : List (List (List ℕ))) (before after : ℕ) (none : bases ≡ replicate program.nodes []) (keeps : Keeps firsts bases new before after) where
-    empty : (u : ℕ) → rows_at bases u ≡ []
-    empty u = rw none (no_rows_at program.nodes u)
-
-    all : All (IsLeadingBasis 17) bases
-    all = rw none (none_lead program.nodes)
-
-    pub new_bases : All (IsLeadingBasis 17) new
-    new_bases = keeps.bases all
-
-    pub new_sound : IsSound program new
-    new_sound =
-        sound_with program formed firsts bases new before after all
-        (λ u x h. spans_more 17 (Contains (rows_at bases u)) (IsStateAt program u) (λ y k. absurd (nothing_in y (subst (λ rows. Contains rows y) (empty u) k))) x h)
-        first_sound keeps
-
-    pub works_at_start : (pending : List Offer) → Takes firsts bases new [] pending before after → Works program new pending
-    works_at_start pending takes = record {
-      done = [];
-      working = record {
-        nodes = keeps.nodes ∙ ap (λ (l : List (List (List ℕ))). length l) none ∙ length-replicate {A = List (List ℕ)} program.nodes [];
-        bases_are = new_bases;
-        done_are = All-nil (IsOffer program.nodes);
-        pending_are = All-weaker (Contains pending) (IsOffer program.nodes)
-            (λ x h. elim (takes.listed x.node x.row h) [ inl k ↦ absurd (nothing_in x k) | inr k ↦ All-contains (IsOffer program.nodes) firsts x firsts_are k ]) pending (All-contains_itself pending);
-        closed = record {
-          first = λ v f. module_least 17 (InModule new entry) (combinations 17 (Contains (rows_at new entry)) (all_rows new new_bases entry)) (IsListed firsts entry) (λ x h. takes.taken entry x h) v
-              (offered_all entry b.rows (IsFirst program) b.spans (products_are_rows (IsOpening program.registers (slots_of program program.start)) (Start program)) firsts (λ x h. rw b.is h) v f);
-          moves = λ u w v m h move. absurd (nothing_in (offer u v) h);
-        };
-        done_in = λ u v h. absurd (nothing_in (offer u v) h);
-        pending_in = λ u v h. elim (takes.listed u v h) [ inl k ↦ absurd (nothing_in (offer u v) k) | inr k ↦ takes.taken u v k ];
-        spanned = λ u x h. spans_more 17 (Either (Contains (rows_at bases u)) (IsListed pending u)) (Either (IsListed [] u) (IsListed pending u))
-            (λ y i. elim i [ inl k ↦ absurd (nothing_in y (subst (λ rows. Contains rows y) (empty u) k)) | inr k ↦ inr k ]) x (takes.spanned u x h);
-        sound = new_sound;
-      };
-    }
+pub entry_inside : (program : Program) → IsWellFormed program → (start : State) → start ≡ begin 17 program.nodes → (entry : ℕ) → entry ≡ entry_of program program.start → entry < length start.bases
+entry_inside program formed start is entry entry_is =
+    let n = ap (λ (s : State). length s.bases) is ∙ (begin_is 17 program.nodes).nodes in let b = (formed.procs program.start formed.start).entry in omega arith

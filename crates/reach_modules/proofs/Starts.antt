@@ -10,7 +10,7 @@ use Rattle.affine_prog.proofs.Lemmas.{starts_span}
 use Rattle.row_images.specs.States.{Spans}
 use Rattle.reach_modules.specs.Made.{alone}
 use Rattle.reach_modules.specs.Tables.{ArePositions}
-use Rattle.reach_modules.proofs.Membership.{map_in, map_out}
+use Rattle.row_engine.proofs.Members.{map_in, map_out}
 
 pub starts_are_rows : (program : Program) → AreRows 17 (Start program)
 starts_are_rows program v s = s.state.row

@@ -1,31 +1,16 @@
 -- What is looked up: the edges that leave a node, and the basis of a procedure's exit.
 --
---   edge_at program k                    edge k
---   OutSoFar program n out               for each node, the numbers of those of the first n edges that leave it
---   AreOut program out                   for each node, the numbers of the edges that leave it
 --   AlongSome program ks v m             m is the map of a move to node v along one of the edges with these numbers
 --   ArePlaces program bases places       for each procedure the place, among the bases, of one of the module of the maps of its
 --                                        level paths to its exit
 --   ArePositions set positions           the positions below 16 of a set
-use Rattle.std.specs.Prelude.{◌≡◌, ℕ, ◌<◌, ◌↔◌, List, [], Contains, length, slice_index, slice_index_or, IsTrue}
+use Rattle.std.specs.Prelude.{◌≡◌, ℕ, ◌<◌, ◌↔◌, List, Contains, length, slice_index, IsTrue}
 use Rattle.row_modules.specs.Modules.{SameModule}
 use Rattle.row_modules.specs.Positions.{has}
 use Rattle.affine_prog.specs.declared.Program.{Program}
-use Rattle.affine_prog.specs.declared.Edge.{Edge}
-use Rattle.affine_prog.specs.declared.Kind.TheVariants.{Do}
-use Rattle.affine_prog.specs.Programs.{edge}
 use Rattle.affine_prog.specs.Spans.{rows_at, IsMapOf}
+use Rattle.row_engine.specs.Tables.{edge_at}
 use Rattle.reach_modules.specs.Moves.{EdgeMap}
-
-abbrev pub edge_at : Program → ℕ → Edge
-edge_at program k = slice_index_or program.edges k (edge 0 0 (Do []))
-
-pub record OutSoFar (program : Program) (n : ℕ) (out : List (List ℕ)) : Type 0 where
-  pub each : length out ≡ program.nodes
-  pub is : (u k : ℕ) → Contains (slice_index_or out u []) k ↔ ((k < n) × ((edge_at program k).from ≡ u))
-
-abbrev pub AreOut : Program → List (List ℕ) → Type 0
-AreOut program out = OutSoFar program (length program.edges) out
 
 abbrev pub AlongSome : Program → List ℕ → ℕ → List ℕ → Type 0
 AlongSome program ks v m = (k : ℕ) × Contains ks k × EdgeMap program (edge_at program k) v m

@@ -9,9 +9,9 @@ ghost use Rattle.affine_prog.specs.Laws.{IsOpening};
 ghost use Rattle.affine_prog.specs.Spans.{IsMapOf};
 ghost use Rattle.reach_modules.specs.Made.{MakesEach};
 ghost use Rattle.reach_modules.specs.Moves.{IsReturn};
-ghost use Rattle.reach_modules.specs.Offers.{offer};
-ghost use Rattle.reach_modules.specs.Tables.{AreOut, ArePlaces};
-ghost use Rattle.reach_modules.specs.Worklists.{EdgeOffers, Pushes};
+ghost use Rattle.row_engine.specs.Tables.{AreOut};
+ghost use Rattle.reach_modules.specs.Offers.{offer, EdgeOffers, RowOffers};
+ghost use Rattle.reach_modules.specs.Tables.{ArePlaces};
 
 use crate::made::{each_opened, each_returned, positions};
 use crate::{Offer, Tables};
@@ -144,22 +144,23 @@ fn edge_offers(
     }
 }
 
-/// What the edges that leave a row's node make of it.
+/// What the edges that leave a node make of a row.
 pub(crate) fn row_offers(
     alloc: Global,
     program: &Program,
     bases: &[MatBasis],
     tables: &Tables,
-    row: &Offer,
+    node: u32,
+    row: &Row<17>,
 ) -> Result<Items<Offer>, Memory>
     requires formed { IsWellFormed program.now }
     requires places { ArePlaces program.now bases.now tables.now.places }
     requires out { AreOut program.now tables.now.out.items }
-    requires node { row.now.node < program.now.nodes }
-    ensures { IfOk result (Pushes program.now row.now.node row.now.row) }
+    requires node { node < program.now.nodes }
+    ensures { IfOk result (RowOffers program.now node row.now) }
 {
     let mut offers = Items::new(alloc);
-    for k in tables.out[row.node as usize].as_slice() {
+    for k in tables.out[node as usize].as_slice() {
         let edge = &program.edges.as_slice()[*k as usize];
         let more = edge_offers(
             alloc,
@@ -167,7 +168,7 @@ pub(crate) fn row_offers(
             bases,
             tables.places.as_slice(),
             edge,
-            &row.row,
+            row,
         )?;
         match offers.append(more) {
             Ok(()) => {}

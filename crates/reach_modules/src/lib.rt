@@ -3,7 +3,7 @@
 //! For each node [`Reach`] holds a basis of the module that the states of all open paths to the node generate, from all
 //! starts. It is made from what procedures do: `solve::reach` takes a basis for each node, of the maps of the
 //! level paths to it, and `solve::reach_by_exits` one for each procedure, of the maps of its level paths to its exit. Rows go
-//! forward along edges, each once: as a list of assignments makes them, over a call as the callee's exit makes them, and
+//! forward along edges: as a list of assignments makes them, over a call as the callee's exit makes them, and
 //! into a callee by its opening. What relations hold of the states is left to the crates above.
 //!
 //! ```text
@@ -15,9 +15,9 @@
 mod edges;
 mod made;
 mod places;
+mod push;
 pub mod solve;
 mod start;
-mod worklist;
 
 ghost use Rattle.std.specs.Prelude.{◌≡◌, ◌<◌, length};
 ghost use Rattle.affine_prog.specs.Spans.{rows_at};
@@ -33,7 +33,7 @@ pub struct Reach {
     bases: Vec<Basis<17>>,
 }
 
-/// A row that is offered to a node, or is still to be pushed from it.
+/// A row that is offered to a node.
 #[derive(Clone, Copy, Debug, PartialEq, Eq)]
 pub(crate) struct Offer {
     node: u32,

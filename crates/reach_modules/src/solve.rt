@@ -3,16 +3,17 @@
 ghost use Rattle.std.specs.Prelude.{ℕ, ◌+◌, ◌*◌, ◌≤◌, IfOk};
 ghost use Rattle.affine_prog.specs.Programs.{IsWellFormed};
 ghost use Rattle.affine_prog.specs.Spans.{AreLevels, AreExits, AreReached};
-ghost use Rattle.reach_modules.specs.Counts.{row_count};
+ghost use Rattle.row_engine.specs.States.{row_count};
 ghost use Rattle.reach_modules.specs.Tables.{ArePlaces};
 
-use crate::places::{edges_out, exits_of, numbers_to};
-use crate::start::{empty_bases, first_offers};
-use crate::worklist::{push_all, take_all};
+use crate::places::{exits_of, numbers_to};
+use crate::push::ProgramMoves;
+use crate::start::first_rows;
 use crate::{Reach, Tables};
 use affine_prog::Program;
 use lead_basis::{Memory, Steps};
 use map_modules::MatBasis;
+use row_engine::{Nodes, close, edges_out};
 use sqlite_items::Items;
 use std::alloc::Global;
 use std::sync::ledger::Ledger;
@@ -72,18 +73,17 @@ fn solve<L: Ledger>(
 {
     let out = edges_out(alloc, program)?;
     let tables = Tables { out, places };
-    let firsts = first_offers(alloc, program)?;
-    let mut bases = empty_bases(alloc, program.nodes)?;
-    let mut pending = Items::new(alloc);
-    take_all(&mut bases, &mut pending, firsts.as_slice(), steps)?;
-    push_all(
-        alloc,
+    let firsts = first_rows(alloc, program)?;
+    let entry = program.procs.as_slice()[program.start as usize].entry;
+    let mut nodes = Nodes::<17>::new(alloc, program.nodes)?;
+    nodes.offer(entry, firsts.as_slice(), steps)?;
+    let moves = ProgramMoves {
         program,
         summaries,
-        &tables,
-        &mut bases,
-        &mut pending,
-        steps,
-    )?;
-    Ok(Reach { bases })
+        tables: &tables,
+    };
+    close(alloc, &moves, &mut nodes, steps)?;
+    Ok(Reach {
+        bases: nodes.into_bases(),
+    })
 }

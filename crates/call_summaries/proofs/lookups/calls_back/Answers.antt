@@ -2,7 +2,8 @@ use Rattle.std.proofs.Common.{◌≡◌, ℕ, List, ◌<◌, length, get_or, ap,
 use Rattle.affine_prog.specs.declared.Edge.{Edge}
 use Rattle.affine_prog.specs.declared.Proc.{Proc}
 use Rattle.call_summaries.specs.Tables.{ReturnFirst}
-use Rattle.call_summaries.proofs.ByNumber.{edge_found, callee_of, exit_below, exit_at}
+use Rattle.row_engine.proofs.ByNode.{edge_found}
+use Rattle.call_summaries.proofs.ByNumber.{callee_of, exit_below, exit_at}
 use Rattle.call_summaries.proofs.Tabled.{return_none, return_more, return_skipped}
 use Rattle.call_summaries.proofs.lookups.calls_back.Goals.{in-Call+in-Ok, in-Do}
 use Rattle.call_summaries.proofs.lookups.calls_back.Goals as goal

@@ -2,8 +2,9 @@ use Rattle.std.proofs.Common.{◌≡◌, List, ◌<◌, ◌≤◌, length, get_o
 use Rattle.affine_prog.specs.declared.Edge.{Edge}
 use Rattle.affine_prog.specs.declared.Proc.{Proc}
 use Rattle.affine_prog.specs.Programs.{exit_of, owner_of}
-use Rattle.call_summaries.specs.Tables.{edge_at}
-use Rattle.call_summaries.proofs.ByNumber.{edge_found, edge_of, owner_is, exit_at}
+use Rattle.row_engine.specs.Tables.{edge_at}
+use Rattle.row_engine.proofs.ByNode.{edge_found, edge_of}
+use Rattle.call_summaries.proofs.ByNumber.{owner_is, exit_at}
 use Rattle.call_summaries.proofs.Marking.{marked_none, marked_set, marked_kept, marked_all}
 use Rattle.call_summaries.proofs.returning.returning_procs.Goals.{then-as_slice-owner, else-as_slice-owner}
 use Rattle.call_summaries.proofs.returning.returning_procs.Goals as goal

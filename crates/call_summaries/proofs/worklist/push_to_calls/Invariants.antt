@@ -1,7 +1,9 @@
-use Rattle.call_summaries.specs.Pushes.{Back}
-use Rattle.call_summaries.proofs.AlongEdges.{PushedSoFar}
+use Rattle.std.proofs.Common.{take}
+use Rattle.affine_prog.specs.Spans.{IsMapTo}
+use Rattle.row_engine.proofs.Pushing.{GrownSoFar}
+use Rattle.call_summaries.specs.Pushes.{Along, Back}
 use Rattle.call_summaries.proofs.worklist.push_to_calls.Given as goal
 
 abbrev pub invariant-loop-place : goal.invariant-loop-place
 invariant-loop-place g l =
-    PushedSoFar l.program (λ e old new. Back l.program e old new l.row.row) l.places l.place-index l.fn.bases.items l.bases.items l.fn.list l.list l.fn.steps l.steps
+    GrownSoFar 289 (IsMapTo l.program) l.fn.nodes l.nodes l.fn.steps l.steps (Along l.program (λ e. Back l.program e l.fn.nodes l.nodes l.row) (take l.place-index l.places))

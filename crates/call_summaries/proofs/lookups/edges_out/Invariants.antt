@@ -1,5 +1,0 @@
-use Rattle.call_summaries.specs.Tables.{LeaveFirst}
-use Rattle.call_summaries.proofs.lookups.edges_out.Given as goal
-
-abbrev pub invariant-loop-k : goal.invariant-loop-k
-invariant-loop-k l = LeaveFirst l.program l.k l.out.items

@@ -1,0 +1,10 @@
+pub mod Members
+pub mod Marked
+pub mod Taking
+pub mod InTurn
+pub mod Measure
+pub mod Working
+pub mod Closing
+pub mod Pushing
+pub mod Starting
+pub mod ByNode

@@ -1,0 +1,4 @@
+pub mod States
+pub mod Growth
+pub mod Turns
+pub mod Tables
