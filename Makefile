@@ -12,7 +12,7 @@ STEPS = 1000
 REGS =
 export REPORT STEPS REGS
 
-.PHONY: help demo analyse cert list run upgrade build test bench edits
+.PHONY: help demo analyse cert list run upgrade build test large bench edits
 
 help:
 	@echo 'make demo                       the report of $(EXAMPLE)    1 to 2 minutes, mostly compiling'
@@ -23,6 +23,7 @@ help:
 	@echo 'make upgrade FILE=F REPORT=R    the report R with certificates                 1 to 2 minutes, mostly compiling'
 	@echo 'make build                      proves and builds the program                  half an hour or more where nothing is kept'
 	@echo 'make bench                      times of the built program on files of growing size   some seconds'
+	@echo 'make large                      the built program on inputs near the limits, compared whole   half a minute'
 	@echo 'make test                       the whole test, rt ci                          an hour or more where nothing is kept'
 	@echo 'make edits                      further wrong bodies, each of which the proof must refuse     half an hour or more'
 	@echo
@@ -64,6 +65,10 @@ upgrade:
 build:
 	@cd crates/analyser_main && rt run -- list ../../examples/one_register.elf
 	@echo 'make: built, proved: $(PROGRAM)'
+
+large:
+	@test -x $(PROGRAM) || { echo 'make: make build comes first' >&2; exit 1; }
+	@python3 tests/large.py $(PROGRAM)
 
 bench:
 	@test -x $(PROGRAM) || { echo 'make: make build comes first' >&2; exit 1; }
