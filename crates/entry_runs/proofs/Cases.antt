@@ -86,6 +86,10 @@ large = refl
 lost : flow_under (Jalr 0 1 (pos 0)) None 65592 65596 (returned foreign start 65580 65584) ≡ Leave
 lost = refl
 
+-- and by one that keeps it
+lost_known : flow_under (Jalr 0 1 (pos 0)) None 65592 65596 (put start 1 (Is 0 65588)) ≡ Leave
+lost_known = refl
+
 -- millicode: a link in t0, and a jump by it
 linked_back : flow_under (Jalr 0 5 (pos 0)) None 65600 65604 (state_behind (Jal 5 (pos 32)) 65540 65544 start)
     ≡ On (65544 ∷ []) (state_behind (Jal 5 (pos 32)) 65540 65544 start)

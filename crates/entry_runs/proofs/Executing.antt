@@ -23,7 +23,7 @@ use Rattle.entry_values.specs.States.{value_at, put}
 use Rattle.entry_values.specs.Transfers.{is_below, loaded_value, folded_one, folded_two, added, subtracted}
 use Rattle.entry_values.specs.declared.flow.Flow.{Flow}
 use Rattle.entry_values.specs.declared.flow.Flow.TheVariants.{On, ByTable, CallTo, Foreign, Past, Return, TailOut, Leave, Stuck, Halt}
-use Rattle.entry_values.specs.Flows.{is_entry, is_zero, linked, jump_out, unresolved, jump_flow, flow_under}
+use Rattle.entry_values.specs.Flows.{is_entry, is_zero, linked, known_jump, jump_out, unresolved, jump_flow, flow_under}
 use Rattle.entry_values.specs.declared.values.Kind.TheVariants.{Environment, Narrow}
 use Rattle.entry_runs.specs.Premises.{Own, own_of, Spares, IsPlaced, Among}
 use Rattle.entry_runs.proofs.Computing.{folded_one_means, folded_two_means, added_means, subtracted_means}
@@ -86,6 +86,13 @@ module _ (entry : List ℕ) (s : State) (m n : Hart) (next : ℕ) (words : AreWo
         refl,
       )
 
+  known_follows : (rd rs1 : ℕ) (imm : ℤ) (target : ℕ) → Writes m rd next target n → Follows entry next s m n (known_jump rd rs1 imm target next s)
+  known_follows rd rs1 imm target made = by (rd == 0 && (rs1 == 1 && is_zero imm))
+    where
+      by : (t : Bool) → Follows entry next s m n (if t then Leave else linked rd target next s)
+      by true = tt
+      by false = linked_follows rd target made
+
   jumped : (rd target : ℕ) → (rd == 0) ≡ true → Writes m rd next target n → Told entry s n
   jumped rd target e made =
       same_told entry s m n told (made.registers ∙ ap (λ (r : ℕ). written m.registers r next) (eqb-true rd 0 e)) (spares_all entry s.slots m n made.memory)
@@ -116,12 +123,12 @@ module _ (entry : List ℕ) (s : State) (m n : Hart) (next : ℕ) (words : AreWo
   jump_follows rd rs1 imm guess (Is b k) a small means made = by (b == 0) refl (rd == 0 && (b == 1 && k == 0)) refl
     where
       by : (t : Bool) → (b == 0) ≡ t → (u : Bool) → (rd == 0 && (b == 1 && k == 0)) ≡ u
-          → Follows entry next s m n (if t then linked rd (even k) next s else if u then Return else unresolved rd rs1 imm guess next s (Is b k))
+          → Follows entry next s m n (if t then known_jump rd rs1 imm (even k) next s else if u then Return else unresolved rd rs1 imm guess next s (Is b k))
       by true e u f =
           let here : a ≡ (slice_index entry 0 + k) % 2 ^ 64 = means ∙ ap (λ (c : ℕ). (slice_index entry c + k) % 2 ^ 64) (eqb-true b 0 e) in
           let zero_is = words.zero_is in
           let same : a ≡ k = omega arith in
-          linked_follows rd (even k) (subst (λ (c : ℕ). Writes m rd next (even c) n) same made)
+          known_follows rd rs1 imm (even k) (subst (λ (c : ℕ). Writes m rd next (even c) n) same made)
       by false e false f = unresolved_follows rd rs1 imm guess (even a) (Is b k) made
       by false e true f =
           let parts = both (rd == 0) (b == 1 && k == 0) f in

@@ -10,7 +10,7 @@ use Rattle.opaque_words.specs.declared.rows.Row.{Row}
 use Rattle.entry_values.specs.Opaque.{opaque_state}
 use Rattle.entry_values.specs.declared.flow.Flow.{Flow}
 use Rattle.entry_values.specs.declared.flow.Flow.TheVariants.{On, CallTo, Foreign, Past, Return, TailOut, Leave, Stuck, Halt}
-use Rattle.entry_values.specs.Flows.{is_entry, is_zero, linked, jump_out, unresolved, jump_flow, flow_under}
+use Rattle.entry_values.specs.Flows.{is_entry, is_zero, linked, known_jump, jump_out, unresolved, jump_flow, flow_under}
 use Rattle.entry_tables.specs.declared.rows.Line.{Line}
 use Rattle.entry_tables.specs.Tables.{next_of, flow_by}
 use Rattle.rv_instr.specs.declared.Instr.{Instr}
@@ -31,6 +31,13 @@ linked_plain rd target next s = by (rd == 1)
     by : (t : Bool) → IsNotPast (if t then CallTo target next else On (target ∷ []) (put s rd (Is 0 next)))
     by false = tt
     by true = tt
+
+known_plain : (rd rs1 : ℕ) (imm : ℤ) (target next : ℕ) (s : State) → IsNotPast (known_jump rd rs1 imm target next s)
+known_plain rd rs1 imm target next s = by (rd == 0 && (rs1 == 1 && is_zero imm))
+  where
+    by : (t : Bool) → IsNotPast (if t then Leave else linked rd target next s)
+    by true = tt
+    by false = linked_plain rd target next s
 
 unresolved_plain : (rd rs1 : ℕ) (imm : ℤ) (guess : Option (List ℕ)) (next : ℕ) (s : State) (v : Value) → IsNotPast (unresolved rd rs1 imm guess next s v)
 unresolved_plain rd rs1 imm guess next s v = by (rd == 0) (rs1 == 1 && is_zero imm) (rd == 1 || rd == 5)
@@ -54,8 +61,8 @@ jump_plain : (rd rs1 : ℕ) (imm : ℤ) (guess : Option (List ℕ)) (next : ℕ)
 jump_plain rd rs1 imm guess next s (Any c kind) = unresolved_plain rd rs1 imm guess next s (Any c kind)
 jump_plain rd rs1 imm guess next s (Is b k) = by (b == 0) (rd == 0 && (b == 1 && k == 0))
   where
-    by : (t u : Bool) → IsNotPast (if t then linked rd (even k) next s else if u then Return else unresolved rd rs1 imm guess next s (Is b k))
-    by true u = linked_plain rd (even k) next s
+    by : (t u : Bool) → IsNotPast (if t then known_jump rd rs1 imm (even k) next s else if u then Return else unresolved rd rs1 imm guess next s (Is b k))
+    by true u = known_plain rd rs1 imm (even k) next s
     by false true = tt
     by false false = unresolved_plain rd rs1 imm guess next s (Is b k)
 

@@ -26,6 +26,7 @@ pub fn tabulate(
 ) -> Result<Rows, NoTable>
     ensures settled { IfOk result (λ rows. IsSettled (table_of image.now rows)) }
     ensures reads { IfOk result (λ rows. Reads (code_at image.now) (table_of image.now rows)) }
+    ensures lined { IfOk result (λ rows. AreLined image.now rows.points) }
     ensures roots { IfOk result (λ rows. EachOf roots.now (Contains (table_of image.now rows).procedures)) }
     ensures given { IfOk result (λ rows. (rows.guesses ≡ guesses) × (rows.silent ≡ silent)) }
 {
@@ -45,6 +46,7 @@ fn checked(alloc: Global, image: &Image, roots: &[u64], rows: Rows) -> Result<Ro
     requires { AreLined image.now rows.points }
     ensures settled { IfOk result (λ rows. IsSettled (table_of image.now rows)) }
     ensures reads { IfOk result (λ rows. Reads (code_at image.now) (table_of image.now rows)) }
+    ensures lined { IfOk result (λ rows. AreLined image.now rows.points) }
     ensures roots { IfOk result (λ rows. EachOf roots.now (Contains (table_of image.now rows).procedures)) }
     ensures same { IfOk result (λ after. after ≡ rows) }
 {

@@ -9,6 +9,9 @@
 --   is_entry r v                 it is the entry's word of r
 --   is_zero z                    it is 0
 --   linked rd target next s      a jump to a known address, which is a call where rd is ra
+--   known_jump rd rs1 imm target next s
+--                                a jump by a register to a known address: one by ra that links nothing leaves, since ra has
+--                                another word than at the entry
 --   tail_flow v s                a jump to v whose targets aren't known. One to the word that t0 had at the entry goes back
 --                                to who called by t0, and that is no tail call
 --   jump_out guess s v           it, or one to the targets that are taken for it
@@ -43,6 +46,9 @@ abbrev pub linked : ℕ → ℕ → ℕ → State → Flow
 linked rd target next s =
     if rd == 1 then CallTo target next else On (target ∷ []) (put s rd (Is 0 next))
 
+abbrev pub known_jump : ℕ → ℕ → ℤ → ℕ → ℕ → State → Flow
+known_jump rd rs1 imm target next s = if rd == 0 && (rs1 == 1 && is_zero imm) then Leave else linked rd target next s
+
 abbrev pub tail_flow : Value → State → Flow
 tail_flow v s =
     if is_entry 5 v then Stuck else if is_entry 2 (value_at s 2) && is_entry 1 (value_at s 1) then TailOut else Stuck
@@ -58,7 +64,7 @@ unresolved rd rs1 imm guess next s v =
 
 abbrev pub jump_flow : ℕ → ℕ → ℤ → Option (List ℕ) → ℕ → State → Value → Flow
 jump_flow rd rs1 imm guess next s (Is b k) =
-    if b == 0 then linked rd (even k) next s
+    if b == 0 then known_jump rd rs1 imm (even k) next s
     else if rd == 0 && (b == 1 && k == 0) then Return else unresolved rd rs1 imm guess next s (Is b k)
 jump_flow rd rs1 imm guess next s (Any a kind) = unresolved rd rs1 imm guess next s (Any a kind)
 

@@ -2,7 +2,7 @@
 
 ghost use Rattle.std.specs.Prelude.{◌≡◌, ◌<◌, ◌∷◌, [], Option, IfOk};
 ghost use Rattle.rv_decode.specs.Instructions.{IsWellFormed};
-ghost use Rattle.entry_values.specs.Flows.{is_entry, linked, tail_flow, jump_out, unresolved, jump_flow, flow_under};
+ghost use Rattle.entry_values.specs.Flows.{is_entry, linked, known_jump, tail_flow, jump_out, unresolved, jump_flow, flow_under};
 
 use crate::Memory;
 use crate::flow::Flow;
@@ -93,6 +93,25 @@ fn linked(alloc: Global, rd: u8, target: u64, next: u64, s: &State) -> Result<Fl
     }
 }
 
+fn known_jump(
+    alloc: Global,
+    rd: u8,
+    rs1: u8,
+    imm: i32,
+    target: u64,
+    next: u64,
+    s: &State,
+) -> Result<Flow, Memory>
+    requires { rd < 32 }
+    ensures { IfOk result (λ f. f ≡ known_jump rd rs1 imm target next s.now) }
+{
+    if rd == 0 && rs1 == 1 && imm == 0 {
+        Ok(Flow::Leave)
+    } else {
+        linked(alloc, rd, target, next, s)
+    }
+}
+
 fn tail_flow(v: Value, s: &State) -> Flow
     ensures { result ≡ tail_flow v s.now }
 {
@@ -152,7 +171,7 @@ fn jump_flow(
     ensures { IfOk result (λ f. f ≡ jump_flow rd rs1 imm guess next s.now v) }
 {
     match v {
-        Value::Is(0, k) => linked(alloc, rd, even(k), next, s),
+        Value::Is(0, k) => known_jump(alloc, rd, rs1, imm, even(k), next, s),
         Value::Is(1, 0) if rd == 0 => Ok(Flow::Return),
         _ => Ok(unresolved(rd, rs1, imm, guess, next, s, v)),
     }

@@ -25,9 +25,9 @@ pub use flow::Flow;
 pub use flows::flow_under;
 pub use laws::{fits, wide};
 pub use opaque::opaque_state;
-pub use slots::{push, same_slots};
+pub use slots::{is_below, push, same_slots};
 pub use states::{Slot, State};
-pub use transfers::{copied, put, start, state_behind, value_at};
+pub use transfers::{copied, plus, put, start, state_behind, store_width, value_at};
 pub use values::{Kind, Value};
 
 /// Out of memory.

@@ -26,8 +26,8 @@ pub(crate) fn overlaps(w: u64, o: u64, p: u64) -> bool
     distance(o, p) < w || distance(p, o) < 8
 }
 
-// For a width of at most 2^63.
-pub(crate) fn is_below(o: u64, w: u64) -> bool
+/// Bytes of this width, less than 2^63, at an offset lie below the entry's sp.
+pub fn is_below(o: u64, w: u64) -> bool
     requires { w < 2 ^ 63 }
     ensures { result ≡ is_below o w }
 {
