@@ -84,10 +84,7 @@ fn state_of(alloc: Global, states: &Basis<17>, visible: u32) -> Result<PointStat
         Relations::Unreached => Ok(PointState::Unreached),
         Relations::Rows(basis) => {
             basis.known();
-            match Vec::from_slice(alloc, basis.rows()) {
-                Ok(rows) => Ok(PointState::Rows(Items::from_vec(rows))),
-                Err(_) => Err(Memory),
-            }
+            Ok(PointState::Rows(Items::from_vec(basis.into_rows())))
         }
     }
 }

@@ -84,6 +84,13 @@ impl<const N: usize> Basis<N> {
         &self.rows
     }
 
+    /// The rows, in order of their leads, given away.
+    pub fn into_rows(self) -> Vec<Row<N>>
+        ensures { result.items ≡ self.entry }
+    {
+        self.rows
+    }
+
     /// Whether a row is a combination of the rows.
     pub fn member(&self, row: &Row<N>) -> bool
         ensures { IsTrue result ↔ IsCombination N (Contains self.now) row.now }
