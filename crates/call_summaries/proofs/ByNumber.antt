@@ -1,6 +1,6 @@
 -- Procedures and edges of a well-formed program, by number.
-use Rattle.std.proofs.Common.{◌≡◌, ℕ, suc, ◌<◌, List, [], Contains, map, length, get_or, bit_and, ap, subst, ◌∙◌, arith}
-use Rattle.std.proofs.lemmas.List.{get_or-map, length-map, get_or_default}
+use Rattle.std.proofs.Common.{◌≡◌, ℕ, suc, ◌<◌, List, Contains, map, length, get_or, bit_and, subst, arith}
+use Rattle.std.proofs.lemmas.List.{get_or-map, length-map}
 use Rattle.std.proofs.lemmas.List.Elements.{All-contains}
 use Rattle.affine_prog.specs.declared.Program.{Program}
 use Rattle.affine_prog.specs.declared.Proc.{Proc}
@@ -9,7 +9,6 @@ use Rattle.affine_prog.specs.declared.Kind.{Kind}
 use Rattle.affine_prog.specs.declared.Kind.TheVariants.{Do, Call}
 use Rattle.affine_prog.specs.declared.Assign.{Assign}
 use Rattle.affine_prog.specs.Programs.{edge, exit_of, entry_of, slots_of, owner_of, IsKindIn, IsEdgeOf, IsWellFormed}
-use Rattle.affine_prog.specs.Spans.{rows_at}
 use Rattle.row_engine.specs.Tables.{edge_at}
 use Rattle.row_engine.proofs.ByNode.{edge_of}
 use Rattle.affine_prog.proofs.Lemmas.{step_placed, call_placed}

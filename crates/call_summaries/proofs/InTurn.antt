@@ -1,5 +1,5 @@
 -- Products that calls offer, callee by callee and caller by caller.
-use Rattle.std.proofs.Common.{◌≡◌, ℕ, ◌<◌, ◌+◌, ◌⊎◌, inl, inr, List, [], ◌∷◌, Contains, All, length, map, take, get_or, ap, sym, subst, ◌∙◌}
+use Rattle.std.proofs.Common.{◌≡◌, ℕ, ◌<◌, ◌+◌, ◌⊎◌, inl, inr, List, Contains, length, map, take, get_or, ap, sym, subst, ◌∙◌}
 use Rattle.row_modules.specs.Modules.{AreRows}
 use Rattle.map_modules.specs.Matrices.{product, linear_extension}
 use Rattle.map_modules.proofs.Lemmas.{IsRow-matrix}
@@ -7,7 +7,7 @@ use Rattle.affine_prog.specs.declared.Assign.{Assign}
 use Rattle.row_images.specs.Images.{images_of}
 use Rattle.row_engine.specs.Growth.{Offered}
 use Rattle.call_summaries.specs.Offers.{Called, Returned}
-use Rattle.row_engine.proofs.Members.{first_in, only_in, map_in, map_out, taken_in, now_taken, earlier_or_now}
+use Rattle.row_engine.proofs.Members.{map_in, map_out, taken_in, now_taken, earlier_or_now}
 
 -- a loop over callees
 module _ (registers slots to : ℕ) (callees images : List (List ℕ)) (i : ℕ) (x extended : List ℕ) (below : i < length callees) (is : x ≡ get_or callees i x)

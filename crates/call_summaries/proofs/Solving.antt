@@ -1,5 +1,5 @@
 -- From the openings to the end, where the modules are those of the maps of level paths.
-use Rattle.std.proofs.Common.{◌≡◌, ℕ, ◌<◌, ◌+◌, ◌*◌, ◌≤◌, Bool, List, [], Contains, All, length, ap, subst, ◌∙◌, arith}
+use Rattle.std.proofs.Common.{◌≡◌, ℕ, ◌+◌, ◌*◌, ◌≤◌, Bool, List, [], Contains, All, length, ap, arith}
 use Rattle.row_modules.specs.Bases.{IsLeadingBasis}
 use Rattle.row_modules.proofs.Laws.{combinations, module_least}
 use Rattle.lead_basis.proofs.Laws.{length_bound}

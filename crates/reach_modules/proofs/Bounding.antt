@@ -1,5 +1,5 @@
 -- The placements are bounded by the positions that states use.
-use Rattle.std.proofs.Common.{◌≡◌, ℕ, suc, ◌≤◌, ◌<◌, ◌+◌, ◌*◌, List, [], ◌∷◌, All, length, ap, ◌∙◌, arith}
+use Rattle.std.proofs.Common.{◌≡◌, ◌≤◌, ◌+◌, ◌*◌, [], All, length, ap, ◌∙◌, arith}
 use Rattle.row_modules.specs.Bases.{IsLeadingBasis}
 use Rattle.lead_basis.proofs.Laws.{length_bound}
 use Rattle.affine_prog.specs.declared.Program.{Program}

@@ -1,21 +1,15 @@
 -- The places of bases of exits.
-use Rattle.std.proofs.Common.{◌≡◌, ℕ, zero, suc, ◌+◌, ◌<◌, ◌↔◌, inl, inr, List, [], ◌∷◌, ◌++◌, Contains, map, length, get_or, set, replicate, ap, sym, subst, ◌∙◌, arith}
+use Rattle.std.proofs.Common.{◌≡◌, ℕ, ◌+◌, ◌<◌, List, [], ◌∷◌, ◌++◌, Contains, map, length, get_or, ap, sym, subst, ◌∙◌, arith}
 use Rattle.std.specs.List.{range_with_len}
-use Rattle.std.proofs.Math.ListN.{length-set}
-use Rattle.std.proofs.lemmas.Bool.{cases_eq, cases_lt}
-use Rattle.std.proofs.lemmas.List.{get_or-set_same, get_or-set_other, get_or_default, length-map, length-replicate, map-id}
-use Rattle.std.proofs.lemmas.List.Elements.{Contains-append_left, Contains-append_right, Contains-append_cases}
+use Rattle.std.proofs.lemmas.List.{length-map, map-id}
 use Rattle.std.proofs.lemmas.List.FromFn.{length-range_with_len, get_or-range_with_len, map-range_with_len_more}
 use Rattle.row_modules.specs.Modules.{SameModule}
 use Rattle.affine_prog.specs.declared.Program.{Program}
-use Rattle.affine_prog.specs.declared.Edge.{Edge}
 use Rattle.affine_prog.specs.declared.Proc.{Proc}
-use Rattle.affine_prog.specs.declared.Kind.TheVariants.{Do}
-use Rattle.affine_prog.specs.Programs.{edge, exit_of, IsWellFormed}
+use Rattle.affine_prog.specs.Programs.{exit_of, IsWellFormed}
 use Rattle.affine_prog.specs.LevelPaths.{LevelPath}
 use Rattle.affine_prog.specs.Spans.{rows_at, IsMapOf, AreLevels, AreExits}
 use Rattle.reach_modules.specs.Tables.{ArePlaces}
-use Rattle.row_engine.proofs.Members.{nothing_in, first_in, first_or_later_in}
 
 -- places of the bases of exits, among levels and among exits
 pub level_places : (program : Program) (levels : List (List (List ℕ))) (places : List ℕ) → IsWellFormed program → AreLevels program levels → places ≡ map (λ proc. proc.exit) program.procs → ArePlaces program levels places

@@ -162,14 +162,7 @@ pub(crate) fn row_offers(
     let mut offers = Items::new(alloc);
     for k in tables.out[node as usize].as_slice() {
         let edge = &program.edges.as_slice()[*k as usize];
-        let more = edge_offers(
-            alloc,
-            program,
-            bases,
-            tables.places.as_slice(),
-            edge,
-            row,
-        )?;
+        let more = edge_offers(alloc, program, bases, tables.places.as_slice(), edge, row)?;
         match offers.append(more) {
             Ok(()) => {}
             Err(_) => return Err(Memory),

@@ -118,9 +118,7 @@ fn push_rows<L: Ledger>(
     ensures { Reaches program.now nodes.old nodes.new node rows.now result steps.old steps.new }
 {
     for row in rows {
-        push_row(
-            alloc, program, summaries, tables, nodes, node, row, steps,
-        )?;
+        push_row(alloc, program, summaries, tables, nodes, node, row, steps)?;
     }
     Ok(())
 }

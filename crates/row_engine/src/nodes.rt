@@ -80,7 +80,14 @@ impl<const N: usize> Nodes<N> {
         requires { to < length self.old.bases }
         ensures { Takes N (Offered N to (row.now ∷ [])) self.old self.new result steps.old steps.new }
     {
-        take(&mut self.bases, &mut self.marks, &mut self.queue, to, row, steps)
+        take(
+            &mut self.bases,
+            &mut self.marks,
+            &mut self.queue,
+            to,
+            row,
+            steps,
+        )
     }
 
     /// Offers rows to a node, in turn.

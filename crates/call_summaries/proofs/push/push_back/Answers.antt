@@ -1,10 +1,8 @@
-use Rattle.std.proofs.Common.{◌≡◌, ℕ, List, refl, ap, ap₂, ◌∙◌, sym, subst}
+use Rattle.std.proofs.Common.{ℕ, List, ap₂, ◌∙◌, sym, subst}
 use Rattle.map_modules.specs.Matrices.{linear_extension}
-use Rattle.affine_prog.specs.declared.Kind.TheVariants.{Do, Call}
 use Rattle.affine_prog.specs.declared.Assign.{Assign}
 use Rattle.affine_prog.specs.Spans.{IsMapTo}
 use Rattle.affine_prog.proofs.Lemmas.{ArePlaced}
-use Rattle.row_engine.specs.States.{rows_at}
 use Rattle.row_engine.specs.Growth.{Takes}
 use Rattle.row_engine.proofs.Pushing.{grown_none, grown_all, grown_by, grown_not}
 use Rattle.call_summaries.specs.Sound.{IsReturned}

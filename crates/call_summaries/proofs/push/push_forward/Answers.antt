@@ -1,4 +1,4 @@
-use Rattle.std.proofs.Common.{ℕ, List, refl, rules, arith, ap, ap₂, ◌∙◌, sym, subst}
+use Rattle.std.proofs.Common.{List, refl, rules, arith, ap, ◌∙◌, sym, subst}
 use Rattle.affine_prog.specs.declared.Assign.{Assign}
 use Rattle.affine_prog.specs.Spans.{IsMapTo}
 use Rattle.row_images.specs.Images.{images_of, IsPrepared}

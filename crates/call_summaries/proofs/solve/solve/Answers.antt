@@ -1,4 +1,4 @@
-use Rattle.std.proofs.Common.{◌≡◌, ℕ, List, length, rules, ap, sym, subst, ◌∙◌, arith}
+use Rattle.std.proofs.Common.{length, rules, ap, sym, subst, ◌∙◌, arith}
 use Rattle.affine_prog.specs.Spans.{IsMapTo}
 use Rattle.row_engine.specs.States.{State, row_count}
 use Rattle.row_engine.proofs.Starting.{begin_is, first_is, first_sound, first_queued, first_marked, first_nodes, first_leading, first_bounded, first_counted}

@@ -1,5 +1,4 @@
 use Rattle.std.proofs.Common.{◌∙◌}
-use Rattle.affine_prog.specs.Spans.{IsMapTo}
 use Rattle.row_engine.proofs.ByNode.{found}
 use Rattle.row_engine.proofs.Pushing.{so_far, grown_both, grown_sound}
 use Rattle.call_summaries.proofs.Soundness.{maps_are_rows}

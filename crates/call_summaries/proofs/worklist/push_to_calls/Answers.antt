@@ -3,7 +3,7 @@ use Rattle.std.proofs.lemmas.List.{take_all}
 use Rattle.affine_prog.specs.declared.Edge.{Edge}
 use Rattle.affine_prog.specs.Spans.{IsMapTo}
 use Rattle.row_engine.proofs.Pushing.{grown_none, grown_all, grown_then, grown_fails, grown_sound}
-use Rattle.call_summaries.specs.Sound.{IsSound, IsReturned}
+use Rattle.call_summaries.specs.Sound.{IsReturned}
 use Rattle.call_summaries.specs.Pushes.{Along, Back}
 use Rattle.call_summaries.proofs.Soundness.{maps_are_rows}
 use Rattle.call_summaries.proofs.AlongEdges.{back_is_monotone, along_none, along_more, place, place_is, place_in, edge_here, edge_in, prepared_here}

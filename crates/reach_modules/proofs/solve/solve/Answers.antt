@@ -1,7 +1,7 @@
-use Rattle.std.proofs.Common.{◌≡◌, ℕ, List, length, get_or, rules, ap, sym, subst, ◌∙◌, arith}
+use Rattle.std.proofs.Common.{rules, ap, sym, subst, ◌∙◌, arith}
 use Rattle.affine_prog.specs.Spans.{IsStateAt, AreReached}
-use Rattle.row_engine.specs.States.{State, row_count}
-use Rattle.row_engine.proofs.Starting.{begin_is, first_is, first_sound, first_queued, first_marked, first_nodes, first_leading, first_bounded, first_counted}
+use Rattle.row_engine.specs.States.{row_count}
+use Rattle.row_engine.proofs.Starting.{first_is, first_sound, first_queued, first_marked, first_nodes, first_leading, first_bounded, first_counted}
 use Rattle.reach_modules.proofs.Lookups.{entry_at}
 use Rattle.reach_modules.proofs.Starting.{begun, entry_inside}
 use Rattle.reach_modules.proofs.Sounding.{states_are_rows}

@@ -10,9 +10,14 @@ loop-node-init g c =
 
 pub changed-requires : goal.changed-requires
 changed-requires g c =
-    let within = c.known.ensures.within in
-    (search rules, (search rules, (popped_below g.row.N (g.M.Moves.count c.args.moves.now) (g.M.Moves.makes c.args.moves.now) (g.M.Moves.joins c.args.moves.now) (g.M.Moves.states c.args.moves.now) c.requires.rows
-    c.args.nodes.now c.loop-node.nodes c.next.new.self c.in-Some.node c.args.steps.now c.loop-node.steps c.loop-node.invariant c.in-Some.ensures).1))
+    let within = c.known.ensures.within in (
+      search rules,
+      (
+        search rules,
+        (popped_below g.row.N (g.M.Moves.count c.args.moves.now) (g.M.Moves.makes c.args.moves.now) (g.M.Moves.joins c.args.moves.now) (g.M.Moves.states c.args.moves.now) c.requires.rows
+            c.args.nodes.now c.loop-node.nodes c.next.new.self c.in-Some.node c.args.steps.now c.loop-node.steps c.loop-node.invariant c.in-Some.ensures).1,
+      ),
+    )
 
 pub push-requires : goal.push-requires
 push-requires g c =
