@@ -16,13 +16,13 @@
 
 mod changed;
 mod empty;
+mod lookups;
 mod moves;
 mod nodes;
-mod out;
 mod take;
 mod turns;
 
+pub use lookups::{edges_out, empty_lists};
 pub use moves::Moves;
 pub use nodes::Nodes;
-pub use out::{edges_out, empty_lists};
 pub use turns::close;
