@@ -9,48 +9,20 @@ megabytes that is the memory of this script, which starts it. Beside each number
 that the growth is seen: 2 is linear in the size, 4 quadratic.
 """
 import os
-import struct
 import subprocess
 import sys
 import tempfile
 
-ZERO, RA, SP, GP = 0, 1, 2, 3
+sys.path.insert(0, os.path.join(os.path.dirname(os.path.abspath(__file__)), "..", "tests"))
+
+from made_code import ENTRY, EBREAK, GP, RA, RETURN, SP, ZERO, add, addi, beq, elf, jal, ld, sd  # noqa: E402
+
 TEMPORARIES = [5, 6, 7, 28, 29, 30, 31]
 ARGUMENTS = list(range(10, 18))
 NAMES = {1: "ra", 2: "sp", 3: "gp", 5: "t0", 6: "t1", 7: "t2", 28: "t3", 29: "t4", 30: "t5", 31: "t6"}
 NAMES |= {r: f"a{r - 10}" for r in ARGUMENTS}
 EIGHT = ARGUMENTS
 SIXTEEN = ARGUMENTS + TEMPORARIES + [GP]
-ENTRY = 0x10078
-EBREAK = 0x00100073
-RETURN = 0x00008067
-
-
-def addi(rd, rs, imm):
-    return (imm & 0xFFF) << 20 | rs << 15 | rd << 7 | 0x13
-
-
-def add(rd, rs, rt):
-    return rt << 20 | rs << 15 | rd << 7 | 0x33
-
-
-def sd(rs, imm, base):
-    imm &= 0xFFF
-    return (imm >> 5) << 25 | rs << 20 | base << 15 | 3 << 12 | (imm & 31) << 7 | 0x23
-
-
-def ld(rd, imm, base):
-    return (imm & 0xFFF) << 20 | base << 15 | 3 << 12 | rd << 7 | 0x03
-
-
-def beq(rs, rt, off):
-    b = off & 0x1FFF
-    return (b >> 12) << 31 | (b >> 5 & 63) << 25 | rt << 20 | rs << 15 | (b >> 1 & 15) << 8 | (b >> 11 & 1) << 7 | 0x63
-
-
-def jal(rd, off):
-    b = off & 0x1FFFFF
-    return (b >> 20) << 31 | (b >> 1 & 0x3FF) << 21 | (b >> 11 & 1) << 20 | (b >> 12 & 255) << 12 | rd << 7 | 0x6F
 
 
 def tracked(registers):
@@ -190,14 +162,6 @@ TABLE = {
     "diamonds": (diamonds, [15, 30, 60, 120, 240], "a procedure of n diamonds of joins: 257 rows of maps at each"),
     "limits": (limits, [1024, 2048, 4096, 8192, 16384], "straight code that changes sixteen names, up to the limits"),
 }
-
-
-def elf(words):
-    """A file with one segment, which holds its headers and the words."""
-    size = 120 + 4 * len(words)
-    head = b"\x7fELF\x02\x01\x01" + bytes(9) + struct.pack("<HHIQQQIHHHHHH", 2, 243, 1, ENTRY, 64, 0, 0, 64, 56, 1, 0, 0, 0)
-    segment = struct.pack("<IIQQQQQQ", 1, 5, 0, 0x10000, 0x10000, size, size, 0x1000)
-    return head + segment + struct.pack(f"<{len(words)}I", *words)
 
 
 def measured(program, file, names):
