@@ -18,7 +18,7 @@ module _ (bytes list : List ℕ) (points : FlowPoints) (names : List Name) (acce
   late_refusal (Heads limit) is = (is.1, record { points = points; names = names; program = is.0; accepted = accepted; lifted = is.2; many_heads = is.3 })
   late_refusal Memory is = tt
 
-  report_over : (before after : ℕ) (a : Analysis) → IsMade points names before after a.report a.certs → IsReportOver bytes list a.report a.certs
+  pub report_over : (before after : ℕ) (a : Analysis) → IsMade points names before after a.report a.certs → IsReportOver bytes list a.report a.certs
   report_over before after a m = record {
     points = points;
     names = names;

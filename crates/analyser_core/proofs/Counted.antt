@@ -65,7 +65,7 @@ module _ (heads : List ℕ) (order : IsStrictlyIncreasing heads) (numbers : List
 -- the rows of lists for all nodes are those at heads, and those at inner nodes
 module _ (numbers : List (Option ℕ)) (lists reached inner : List (List (List ℕ))) where
   abbrev AreAlike : ℕ → Type 0
-  AreAlike n = (v : ℕ) → v < n → length (rows_at lists v) ≡ length (states_by reached inner v (slice_index_or numbers v None))
+  AreAlike n = (v : ℕ) → v < n → length (rows_at lists v) ≡ length (states_by reached (rows_at inner v) (slice_index_or numbers v None))
 
   abbrev AreNumberedBelow : ℕ → ℕ → Type 0
   AreNumberedBelow n c = (v i : ℕ) → v < n → slice_index_or numbers v None ≡ Some i → i < c
@@ -77,18 +77,18 @@ module _ (numbers : List (Option ℕ)) (lists reached inner : List (List (List �
       → ((d : ℕ) → d ≤ length reached → AreNumberedBelow n d → sum_by length (take n lists) ≤ sum_by length (take d reached) + sum_by length (take n inner))
       → (o : Option ℕ) → slice_index_or numbers n None ≡ o → sum_by length (take (suc n) lists) ≤ sum_by length (take c reached) + sum_by length (take (suc n) inner)
   count_row n c all all_inner few same within rise lower None none =
-      let e = same n (omega arith) ∙ ap (λ (o : Option ℕ). length (states_by reached inner n o)) none in
+      let e = same n (omega arith) ∙ ap (λ (o : Option ℕ). length (states_by reached (rows_at inner n) o)) none in
       let h = lower c few (λ v i below. within v i (omega arith)) in
       omega (arith, one_more length lists n [] (omega arith), one_more length inner n [] (omega arith), e, h)
   count_row n c all all_inner few same within rise lower (Some j) some =
-      let e = same n (omega arith) ∙ ap (λ (o : Option ℕ). length (states_by reached inner n o)) some in
+      let e = same n (omega arith) ∙ ap (λ (o : Option ℕ). length (states_by reached (rows_at inner n) o)) some in
       let j_below = within n j (omega arith) some in
       let h = lower j (omega arith) (λ v i below is. rise v n i j below (omega arith) is some) in
       let part = sums_rise length reached (suc j) c (omega arith) in
       omega (arith, one_more length lists n [] (omega arith), one_more length inner n [] (omega arith), one_more length reached j [] (omega arith), e, h, part)
 
   pub count_rows : (n c : ℕ) → n ≤ length lists → n ≤ length inner → c ≤ length reached
-      → ((v : ℕ) → v < n → length (rows_at lists v) ≡ length (states_by reached inner v (slice_index_or numbers v None)))
+      → ((v : ℕ) → v < n → length (rows_at lists v) ≡ length (states_by reached (rows_at inner v) (slice_index_or numbers v None)))
       → ((v i : ℕ) → v < n → slice_index_or numbers v None ≡ Some i → i < c)
       → ((u v i j : ℕ) → u < v → v < n → slice_index_or numbers u None ≡ Some i → slice_index_or numbers v None ≡ Some j → i < j)
       → sum_by length (take n lists) ≤ sum_by length (take c reached) + sum_by length (take n inner)

@@ -8,6 +8,8 @@ mod RunsTold
 mod NodeStates
 mod Counted
 mod InnerSoFar
+mod Keeping
+mod Telling
 mod Answered
 mod Passed
 mod Upgrading

@@ -1,6 +1,7 @@
 -- The states at a node, from the block program where it is a head, and along its one edge where it is inner.
-use Rattle.std.proofs.Common.{◌≡◌, ℕ, ◌<◌, List, Contains, length, refl, ap, ap₂, sym, subst, ◌∙◌, arith, slice_index, slice_index_or}
+use Rattle.std.proofs.Common.{◌≡◌, ℕ, ◌<◌, List, [], Contains, length, refl, ap, ap₂, sym, subst, ◌∙◌, arith, slice_index, slice_index_or}
 use Rattle.std.specs.Prelude.{Option, None, Some, IsSome, MatchOption}
+use Rattle.std.proofs.lemmas.List.{get_or_default}
 use Rattle.std.proofs.lemmas.List.Elements.{Contains-get_or}
 use Rattle.row_modules.proofs.Laws.{same_with, same_members}
 use Rattle.affine_prog.specs.declared.Program.{Program}
@@ -14,11 +15,11 @@ use Rattle.block_program.specs.Chains.{IsInner}
 use Rattle.block_program.specs.EdgesInto.{assigns_of, IsEdgeInto}
 use Rattle.block_program.specs.Numbers.{AreBlocks, IsNumber, number_of, edge_number_of}
 use Rattle.block_program.proofs.Lemmas.{states_alike}
-use Rattle.analyser_core.specs.States.{HasStates, states_by, states_in, AreInnerStatesBelow}
+use Rattle.analyser_core.specs.States.{Follows, HasStates, states_by, AreKept}
 
 -- the one edge into an inner node, as it is read
 pub record IsStepInto (program : Program) (v : ℕ) (e : Edge) : Type 0 where
-  pub inner : IsInner program v
+  pub follows : Follows program e.from v
   pub from_below : e.from < v
   pub is_do : e.kind ≡ Do (assigns_of e.kind)
   pub contains : Contains program.edges (edge e.from v (Do (assigns_of e.kind)))
@@ -32,7 +33,7 @@ step_into program v k e i read =
     let own : n.assigns ≡ assigns_of e.kind = sym (ap assigns_of kind) in
     let whole : e ≡ edge e.from v (Do (assigns_of e.kind)) = is ∙ ap₂ (λ (f : ℕ) (xs : List Assign). edge f v (Do xs)) (sym from) own in
     record {
-      inner = n;
+      follows = record { inner = n; from = sym from };
       from_below = let b = n.behind in omega (arith, from);
       is_do = kind ∙ ap Do own;
       contains = subst (Contains program.edges) (sym read ∙ whole) (Contains-get_or program.edges k e i.within);
@@ -58,11 +59,11 @@ module _ (program : Program) (formed : IsWellFormed program) (blocks : Contracti
   pub head_within : (reached : List (List (List ℕ))) → AreReached blocks.small reached → (v : ℕ) → v < program.nodes → (i : ℕ) → number_of blocks v ≡ Some i → i < length reached
   head_within reached r v below i some = let n = number_at v i below some in let s = b.small in omega (arith, n.within, s.nodes, r.each)
 
-  pub states_known : (reached inner : List (List (List ℕ))) → AreReached blocks.small reached → (v : ℕ) → v < program.nodes
-      → (number_of blocks v ≡ None → HasStates program v (rows_at inner v)) → HasStates program v (states_in blocks reached inner v)
-  states_known reached inner r v below here = by (number_of blocks v) refl
+  pub states_known : (reached : List (List (List ℕ))) (made : List (List ℕ)) → AreReached blocks.small reached → (v : ℕ) → v < program.nodes
+      → (number_of blocks v ≡ None → HasStates program v made) → HasStates program v (states_by reached made (number_of blocks v))
+  states_known reached made r v below here = by (number_of blocks v) refl
     where
-      by : (o : Option ℕ) → number_of blocks v ≡ o → HasStates program v (states_by reached inner v o)
+      by : (o : Option ℕ) → number_of blocks v ≡ o → HasStates program v (states_by reached made o)
       by None none = here none
       by (Some i) some =
           let n = number_at v i below some in
@@ -90,7 +91,17 @@ module _ (program : Program) (formed : IsWellFormed program) (blocks : Contracti
       → IsStepInto program v e
   step_read v k edges e below some same read = step_into program v k e (edge_into_at v k below some) (read ∙ ap (λ (xs : List Edge). slice_index_or xs k e) same)
 
-  pub before_known : (reached inner : List (List (List ℕ))) → AreReached blocks.small reached → (v : ℕ) → v < program.nodes → AreInnerStatesBelow program v inner
-      → (u : ℕ) → u < v → HasStates program u (states_in blocks reached inner u)
-  before_known reached inner r v below states u before =
-      states_known reached inner r u (omega (arith, before, below)) (λ none. states.exact u before (inner_at u (omega (arith, before, below)) none))
+  pub before_known : (reached kept : List (List (List ℕ))) → AreReached blocks.small reached → (v : ℕ) → v < program.nodes → AreKept program v kept
+      → (u : ℕ) → u < v → Follows program u v → HasStates program u (states_by reached (rows_at kept u) (number_of blocks u))
+  before_known reached kept r v below k u before follows =
+      let node : u < program.nodes = omega (arith, before, below) in
+      states_known reached (rows_at kept u) r u node
+      (λ none. k.exact u before (inner_at u node none) (record { next = v; later = omega arith; node = below; follows = follows }))
+
+  -- the states before an inner node, read from what is kept
+  pub before_read : (reached kept : List (List (List ℕ))) → AreReached blocks.small reached → (v : ℕ) → v < program.nodes → AreKept program v kept → (e : Edge) → IsStepInto program v e
+      → (rows states : List (List ℕ)) → rows ≡ slice_index_or kept e.from rows → states ≡ states_by reached rows (number_of blocks e.from) → HasStates program e.from states
+  before_read reached kept r v below k e s rows states read is =
+      let place : rows ≡ rows_at kept e.from = read ∙ get_or_default kept e.from rows [] (let b = s.from_below in let l = k.long in omega arith) in
+      subst (HasStates program e.from) (sym (is ∙ ap (λ (xs : List (List ℕ)). states_by reached xs (number_of blocks e.from)) place))
+      (before_known reached kept r v below k e.from s.from_below s.follows)

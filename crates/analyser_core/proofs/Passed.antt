@@ -8,15 +8,12 @@ use Rattle.lead_basis.proofs.Laws.{turned}
 use Rattle.affine_prog.specs.declared.Program.{Program}
 use Rattle.affine_prog.specs.declared.Kind.TheVariants.{Do}
 use Rattle.affine_prog.specs.Programs.{edge, visible_in, IsWellFormed, IsEdgeOf}
-use Rattle.affine_prog.specs.Spans.{IsStateAt, AreReached}
-use Rattle.block_program.specs.Contractions.{Contraction}
-use Rattle.block_program.specs.Numbers.{AreBlocks}
+use Rattle.affine_prog.specs.Spans.{IsStateAt}
 use Rattle.block_program.proofs.Lemmas.{passed_on}
 use Rattle.report_text.specs.declared.points.PointState.{PointState}
 use Rattle.report_text.specs.declared.points.PointState.TheVariants.{Unreached, Rows}
-use Rattle.analyser_core.specs.States.{HasStates, states_in, AreInnerStates}
-use Rattle.analyser_core.specs.Told.{told_positions, Relates, PassesOn}
-use Rattle.analyser_core.proofs.NodeStates.{inner_at, states_known}
+use Rattle.analyser_core.specs.States.{HasStates}
+use Rattle.analyser_core.specs.Told.{told_positions, Relates, RelatesAt, PassesOn}
 
 -- modules that are one have the same relations
 related_alike : (set : ℕ) (xs ys : List (List ℕ)) → SameModule 17 (Contains xs) (Contains ys) → (state : PointState) → Relates set xs state → Relates set ys state
@@ -33,20 +30,16 @@ related_alike set xs ys same (Rows rows) r =
       };
     }
 
-module _ (program : Program) (formed : IsWellFormed program) (blocks : Contraction) (b : AreBlocks program blocks) (reached inner : List (List (List ℕ)))
-    (heads : AreReached blocks.small reached) (states : AreInnerStates program inner) where
-  pub known_at : (v : ℕ) → v < program.nodes → HasStates program v (states_in blocks reached inner v)
-  known_at v below = states_known program formed blocks b reached inner heads v below (λ none. states.exact v below (inner_at program formed blocks b v below none))
+module _ (program : Program) where
+  -- what is told by one basis of the states is told by each
+  pub relates_at : (u : ℕ) (states : List (List ℕ)) → HasStates program u states → (state : PointState) → Relates (told_positions program u) states state → RelatesAt program u state
+  relates_at u states known state related others there =
+      related_alike (told_positions program u) states others (same_with 17 _ (IsStateAt program u) _ known (turned 17 _ (IsStateAt program u) there)) state related
 
-  pub passed_related : (u v : ℕ) → v < program.nodes → PassesOn program u v → (state : PointState) → Relates (told_positions program u) (states_in blocks reached inner u) state
-      → Relates (told_positions program v) (states_in blocks reached inner v) state
-  passed_related u v below p state related =
-      let before : u < program.nodes = omega (arith, p.below, below) in
+  pub passed_related : IsWellFormed program → (u v : ℕ) → PassesOn program u v → (state : PointState) → RelatesAt program u state → RelatesAt program v state
+  passed_related formed u v p state related states known =
       let e = All-contains (IsEdgeOf program) program.edges (edge u v (Do [])) formed.edges p.along in
       let positions : told_positions program u ≡ told_positions program v = ap (λ (q : ℕ). with_constant (visible_in program q)) e.one_owner in
-      let moved : SameModule 17 (IsStateAt program u) (IsStateAt program v) =
-      same_members 17 (IsStateAt program u) (IsStateAt program v) (λ s. (passed_on program u v p.inner p.along s).1) (λ s. (passed_on program u v p.inner p.along s).0) in
-      let same = same_with 17 _ (IsStateAt program u) _ (known_at u before)
-      (same_with 17 (IsStateAt program u) (IsStateAt program v) _ moved (turned 17 _ (IsStateAt program v) (known_at v below))) in
-      subst (λ (set : ℕ). Relates set (states_in blocks reached inner v) state) positions
-      (related_alike (told_positions program u) (states_in blocks reached inner u) (states_in blocks reached inner v) same state related)
+      let moved : SameModule 17 (IsStateAt program v) (IsStateAt program u) =
+      same_members 17 (IsStateAt program v) (IsStateAt program u) (λ s. (passed_on program u v p.inner p.along s).0) (λ s. (passed_on program u v p.inner p.along s).1) in
+      subst (λ (set : ℕ). Relates set states state) positions (related states (same_with 17 _ (IsStateAt program v) _ known moved))

@@ -37,7 +37,7 @@ module _ (program : Program) (formed : IsWellFormed program) (blocks : Contracti
       (λ v below none i within same. (head i within).not_inner (subst (IsInner program) (sym same) (inner_at program formed blocks b v below none))))
 
   basis_by : (reached inner : List (List (List ℕ))) → AreReached blocks.small reached → All (IsLeadingBasis 17) reached → AreInnerStates program inner
-      → (v : ℕ) → v < program.nodes → (o : Option ℕ) → number_of blocks v ≡ o → IsLeadingBasis 17 (states_by reached inner v o)
+      → (v : ℕ) → v < program.nodes → (o : Option ℕ) → number_of blocks v ≡ o → IsLeadingBasis 17 (states_by reached (rows_at inner v) o)
   basis_by reached inner heads bases states v below None none = basis_at inner v states.bases (omega (arith, below, states.long))
   basis_by reached inner heads bases states v below (Some i) is =
       let s = b.small in let n = number_at program formed blocks b v i below is in basis_at reached i bases (omega (arith, n.within, s.nodes, heads.each))
@@ -52,7 +52,7 @@ module _ (program : Program) (formed : IsWellFormed program) (blocks : Contracti
       let same : (v : ℕ) → v < program.nodes → length (rows_at lists v) ≡ length (states_in blocks reached inner v) =
       λ v below. as_many_rows 17 (rows_at lists v) (states_in blocks reached inner v) (basis_at lists v bases (omega (arith, below, are.each)))
       (basis_by reached inner heads head_bases states v below (number_of blocks v) refl)
-      (transitive 17 _ _ _ (are.exact v below) (turned 17 _ _ (states_known program formed blocks b reached inner heads v below (λ none. states.exact v below (inner_at program formed blocks b v below none))))) in
+      (transitive 17 _ _ _ (are.exact v below) (turned 17 _ _ (states_known program formed blocks b reached (rows_at inner v) heads v below (λ none. states.exact v below (inner_at program formed blocks b v below none))))) in
       let sums = count_rows blocks.numbers lists reached inner program.nodes (length b.heads) (omega (arith, are.each)) (omega (arith, states.long)) (omega (arith, many)) same
       (λ v i below is. (number_at program formed blocks b v i below is).within)
       (λ u v i j before below one other. numbers_rise b.heads n.order u v i j before (number_at program formed blocks b u i (omega arith) one) (number_at program formed blocks b v j below other)) in

@@ -4,8 +4,8 @@
 --   RelatesBy set states rows      the module of the states isn't zero, and the rows are the reduced basis of its relations on
 --                                  these positions
 --   Relates set states state       the state tells the relations on these positions of the module of the states
---   AreRelated program blocks reached inner told
---                                  each of the first points tells the relations of the states at its node
+--   RelatesAt program u state      the state tells the relations of the states at node u, on what is visible there
+--   AreRelated program told        so does each of the first points at its node
 --   PassesOn program u v           an edge that assigns nothing is the one edge into the inner node v, and comes from u
 --   IsTold program points names u point
 --                                  the point is point u, tells what holds there, and its rows are those of a report
@@ -22,14 +22,13 @@ use Rattle.flow_points.specs.declared.code_points.CodePoint.{CodePoint}
 use Rattle.affine_prog.specs.Programs.{edge, owner_of, visible_in}
 use Rattle.affine_prog.specs.declared.Program.{Program}
 use Rattle.affine_prog.specs.declared.Kind.TheVariants.{Do}
-use Rattle.block_program.specs.Contractions.{Contraction}
 use Rattle.block_program.specs.Chains.{IsInner}
 use Rattle.report_text.specs.Reports.{AreRowsAt}
 use Rattle.report_text.specs.declared.names.Name.{Name}
 use Rattle.report_text.specs.declared.points.PointRows.{PointRows}
 use Rattle.report_text.specs.declared.points.PointState.{PointState}
 use Rattle.report_text.specs.declared.points.PointState.TheVariants.{Unreached, Rows}
-use Rattle.analyser_core.specs.States.{states_in}
+use Rattle.analyser_core.specs.States.{HasStates}
 use Rattle.analyser_core.specs.Reports.{Tells}
 
 abbrev pub told_positions : Program → ℕ → ℕ
@@ -45,9 +44,11 @@ abbrev pub Relates : ℕ → List (List ℕ) → PointState → Type 0
 Relates set states Unreached = HasZeroAlone 17 (Contains states)
 Relates set states (Rows rows) = RelatesBy set states rows
 
-abbrev pub AreRelated : Program → Contraction → List (List (List ℕ)) → List (List (List ℕ)) → List PointRows → Type 0
-AreRelated program blocks reached inner told =
-    (u : ℕ) (point : PointRows) → slice_get told u ≡ Some point → Relates (told_positions program u) (states_in blocks reached inner u) point.state
+abbrev pub RelatesAt : Program → ℕ → PointState → Type 0
+RelatesAt program u state = (states : List (List ℕ)) → HasStates program u states → Relates (told_positions program u) states state
+
+abbrev pub AreRelated : Program → List PointRows → Type 0
+AreRelated program told = (u : ℕ) (point : PointRows) → slice_get told u ≡ Some point → RelatesAt program u point.state
 
 pub record PassesOn (program : Program) (u v : ℕ) : Type 0 where
   pub below : u < v

@@ -15,7 +15,6 @@ use crate::Refusal;
 use crate::accept::accepted;
 use crate::cert_line::CertLine;
 use crate::certify::{certify, words_of};
-use crate::states::inner_states;
 use crate::tell::{known_states, told};
 use affine_lift::lift;
 use affine_prog::Program;
@@ -127,7 +126,6 @@ fn analysis_by<L: Ledger>(
     let exits = exits(alloc, small, steps)?;
     let reached = reach_by_exits(alloc, small, exits.bases(), steps)?;
     known_states(&reached, small.nodes);
-    let inner = inner_states(alloc, program, blocks, &reached, steps)?;
     points.known();
     let certs = certify(
         alloc,
@@ -138,15 +136,7 @@ fn analysis_by<L: Ledger>(
         points.procedures(),
     )?;
     let words = words_of(alloc, certs.as_slice())?;
-    let points = told(
-        alloc,
-        points,
-        &tracked,
-        program,
-        blocks,
-        &reached,
-        inner.as_slice(),
-    )?;
+    let points = told(alloc, points, &tracked, program, blocks, &reached, steps)?;
     Ok(Analysis {
         report: Report {
             version: 2,

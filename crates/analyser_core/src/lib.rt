@@ -17,6 +17,7 @@ mod accept;
 mod analysis;
 mod cert_line;
 mod certify;
+mod kept;
 mod laws;
 mod point_state;
 mod refusal;

@@ -3,47 +3,40 @@
 ghost use Rattle.std.specs.Prelude.{◌≡◌, ◌<◌, IsTrue, IfOk, IfSome, length};
 ghost use Rattle.row_modules.specs.Positions.{has};
 ghost use Rattle.affine_prog.specs.Programs.{IsWellFormed};
-ghost use Rattle.affine_prog.specs.Spans.{AreReached};
 ghost use Rattle.block_program.specs.Numbers.{AreBlocks};
-ghost use Rattle.analyser_core.specs.States.{states_in, AreInnerStates};
-ghost use Rattle.analyser_core.specs.Told.{told_positions, Relates, AreRelated, PassesOn};
+ghost use Rattle.analyser_core.specs.States.{HasStates};
+ghost use Rattle.analyser_core.specs.Told.{told_positions, Relates, RelatesAt, AreRelated, PassesOn};
 
-use crate::states::states_at;
 use affine_prog::{Kind, Program};
 use block_program::Blocks;
 use lead_basis::{Basis, Memory};
-use reach_modules::Reach;
 use relation_solver::{Relations, solve};
 use report_text::{PointRows, PointState};
 use sqlite_items::Items;
 use std::alloc::Global;
 
-/// The relations of the states at a node, behind what is told of all smaller nodes. Where an edge that assigns nothing
-/// passes the states of another node on, what is told of that one is told again, and else the relations are solved.
+/// The relations of the states at a node, which are given, behind what is told of all smaller nodes. Where an edge that
+/// assigns nothing passes the states of another node on, what is told of that one is told again, and else the relations are
+/// solved.
 pub(crate) fn state_at(
     alloc: Global,
     program: &Program,
     blocks: &Blocks,
-    reached: &Reach,
-    inner: &[Basis<17>],
+    states: &Basis<17>,
     told: &[PointRows],
     node: u32,
 ) -> Result<PointState, Memory>
     requires formed { IsWellFormed program.now }
     requires blocks { AreBlocks program.now blocks.now }
-    requires reached { AreReached blocks.now.small reached.now }
-    requires inner { AreInnerStates program.now inner.now }
     requires node { node < program.now.nodes }
+    requires states { HasStates program.now node states.now }
     requires count { length told.now ≡ node }
-    requires told { AreRelated program.now blocks.now reached.now inner.now told.now }
-    ensures { IfOk result (Relates (told_positions program.now node) (states_in blocks.now reached.now inner.now node)) }
+    requires told { AreRelated program.now told.now }
+    ensures { IfOk result (RelatesAt program.now node) }
 {
     match passed_from(program, blocks, node) {
         Some(from) => copy_of(alloc, &told[from as usize].state),
-        None => {
-            let states = states_at(blocks, reached, inner, node);
-            state_of(alloc, states, visible_at(program, node))
-        }
+        None => state_of(alloc, states, visible_at(program, node)),
     }
 }
 

@@ -1,4 +1,4 @@
-//! The states at all nodes: those at heads come from the block program, those at inner nodes are pushed along its chains.
+//! The states at a node: those at a head come from the block program, those at an inner node are pushed along its one edge.
 
 ghost use Rattle.std.specs.Prelude.{◌≡◌, ℕ, ◌+◌, ◌*◌, ◌<◌, ◌≤◌, All, Contains, None, Some, length, sum_by, IfOk};
 ghost use Rattle.row_modules.specs.Bases.{IsLeadingBasis};
@@ -7,7 +7,7 @@ ghost use Rattle.affine_prog.specs.Programs.{IsWellFormed};
 ghost use Rattle.affine_prog.specs.Spans.{IsStateAt, AreReached};
 ghost use Rattle.block_program.specs.Chains.{IsInner};
 ghost use Rattle.block_program.specs.Numbers.{AreBlocks, number_of};
-ghost use Rattle.analyser_core.specs.States.{HasStates, states_in, inner_part, inner_count, AreInnerStates, AreInnerStatesBelow};
+ghost use Rattle.analyser_core.specs.States.{HasStates, states_by, inner_part, AreKept};
 
 use affine_prog::Program;
 use block_program::{Blocks, push};
@@ -16,38 +16,37 @@ use reach_modules::Reach;
 use std::alloc::Global;
 use std::sync::ledger::Ledger;
 
-/// A basis of the states at a node: the block program's at a head, and that of the table at an inner node.
+/// A basis of the states at a node: the block program's at a head, and the one that was made at an inner node.
 pub(crate) fn states_at<'a>(
     blocks: &Blocks,
     reached: &'a Reach,
-    inner: &'a [Basis<17>],
+    made: &'a Basis<17>,
     node: u32,
 ) -> &'a Basis<17>
     requires node { node < length blocks.now.numbers }
     requires head { (i : ℕ) → number_of blocks.now node ≡ Some i → i < length reached.now }
-    requires inner { number_of blocks.now node ≡ None → node < length inner.now }
-    ensures { result.now ≡ states_in blocks.now reached.now inner.now node }
+    ensures { result.now ≡ states_by reached.now made.now (number_of blocks.now node) }
 {
     match blocks.node_of(node) {
         Some(head) => reached.at(head),
-        None => &inner[node as usize],
+        None => made,
     }
 }
 
-/// A basis of the states at an inner node, from those at smaller nodes.
+// A basis of the states at an inner node, from those at the node before it.
 fn push_into<L: Ledger>(
     alloc: Global,
     program: &Program,
     blocks: &Blocks,
     reached: &Reach,
-    inner: &[Basis<17>],
+    kept: &[Basis<17>],
     node: u32,
     steps: &mut Steps<L>,
 ) -> Result<Basis<17>, Memory>
     requires formed { IsWellFormed program.now }
     requires blocks { AreBlocks program.now blocks.now }
     requires reached { AreReached blocks.now.small reached.now }
-    requires below { AreInnerStatesBelow program.now node inner.now }
+    requires kept { AreKept program.now node kept.now }
     requires node { node < program.now.nodes }
     requires is_inner { number_of blocks.now node ≡ None }
     ensures exact { IfOk result (λ states. HasStates program.now node states) }
@@ -56,25 +55,25 @@ fn push_into<L: Ledger>(
     ensures counts_rows { IfOk result (λ states. steps.old + length states ≤ steps.new) }
 {
     let edge = &program.edges.as_slice()[blocks.edge_into(node) as usize];
-    let before = states_at(blocks, reached, inner, edge.from);
+    let before = states_at(blocks, reached, &kept[edge.from as usize], edge.from);
     before.known();
     push(alloc, edge, before, steps)
 }
 
-/// The same where the node is inner, and a basis without rows where it is a head.
-fn next_states<L: Ledger>(
+/// A basis of the states at a node where it is inner, from those that are kept, and one without rows where it is a head.
+pub(crate) fn next_states<L: Ledger>(
     alloc: Global,
     program: &Program,
     blocks: &Blocks,
     reached: &Reach,
-    inner: &[Basis<17>],
+    kept: &[Basis<17>],
     node: u32,
     steps: &mut Steps<L>,
 ) -> Result<Basis<17>, Memory>
     requires formed { IsWellFormed program.now }
     requires blocks { AreBlocks program.now blocks.now }
     requires reached { AreReached blocks.now.small reached.now }
-    requires below { AreInnerStatesBelow program.now node inner.now }
+    requires kept { AreKept program.now node kept.now }
     requires node { node < program.now.nodes }
     ensures exact { IfOk result (λ states. number_of blocks.now node ≡ None → HasStates program.now node states) }
     ensures never_falls { steps.old ≤ steps.new }
@@ -83,42 +82,6 @@ fn next_states<L: Ledger>(
 {
     match blocks.node_of(node) {
         Some(_) => Ok(Basis::new(alloc)),
-        None => push_into(alloc, program, blocks, reached, inner, node, steps),
+        None => push_into(alloc, program, blocks, reached, kept, node, steps),
     }
-}
-
-/// For each node a basis of the states at it where it is inner, and one without rows where it is a head.
-pub(crate) fn inner_states<L: Ledger>(
-    alloc: Global,
-    program: &Program,
-    blocks: &Blocks,
-    reached: &Reach,
-    steps: &mut Steps<L>,
-) -> Result<Vec<Basis<17>>, Memory>
-    requires formed { IsWellFormed program.now }
-    requires blocks { AreBlocks program.now blocks.now }
-    requires reached { AreReached blocks.now.small reached.now }
-    ensures exact { IfOk result (λ inner. AreInnerStates program.now inner.items) }
-    ensures never_falls { steps.old ≤ steps.new }
-    ensures counts_no_more { steps.new ≤ steps.old + 64 * (program.now.width + 1) * inner_count blocks.now }
-    ensures counts_rows { IfOk result (λ inner. steps.old + sum_by length inner.items ≤ steps.new) }
-{
-    let mut inner = Vec::new(alloc);
-    for node in 0..program.nodes {
-        let states = next_states(
-            alloc,
-            program,
-            blocks,
-            reached,
-            inner.as_slice(),
-            node,
-            steps,
-        )?;
-        states.known();
-        match inner.push(states) {
-            Ok(()) => {}
-            Err(_) => return Err(Memory),
-        }
-    }
-    Ok(inner)
 }

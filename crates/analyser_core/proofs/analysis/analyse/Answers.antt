@@ -9,7 +9,7 @@ use Rattle.analyser_core.proofs.RunsTold.{tells_of_runs}
 use Rattle.analyser_core.specs.Made as made
 use Rattle.analyser_core.specs.Made.{HasWorked, IsMade}
 use Rattle.analyser_core.specs.Work.{IsWithinWork, none, some}
-use Rattle.analyser_core.proofs.Answered.{answered}
+use Rattle.analyser_core.proofs.Answered.{answered, report_over}
 use Rattle.analyser_core.proofs.analysis.analyse.Goals as goal
 
 within : (bytes list : List ℕ) (points : FlowPoints) (names : List Name) (before after : ℕ) → IsAcceptedAs bytes list points names →
@@ -30,14 +30,7 @@ runs : (bytes list : List ℕ) (points : FlowPoints) (names : List Name) (before
     → IsAcceptedAs bytes list points names → IfOk result (λ a. IsMade points names before after a.report a.certs)
     → IfOk result (λ a. TellsOfRuns bytes list a.report a.certs)
 runs bytes list points names before after (Ok a) accepted is =
-    tells_of_runs bytes list a.report a.certs (record {
-      points = points;
-      names = names;
-      program = is.program;
-      lifted = record { accepted = accepted; lifted = is.lifted };
-      few_heads = is.few_heads;
-      is_report = is.is_report;
-    })
+    tells_of_runs bytes list a.report a.certs (report_over bytes list points names accepted before after a is)
 runs bytes list points names before after (Err e) accepted is = tt
 
 pub returns-clause-runs : goal.returns-clause-runs

@@ -22,8 +22,8 @@ certify-requires-clause-exits g c =
 pub certify-requires-clause-within : goal.certify-requires-clause-within
 certify-requires-clause-within g c = rw c.procedures.ensures (λ k d below. Contains-get_or c.args.points.now.procedures k d below)
 
-pub inner_states-requires-clause-reached : goal.inner_states-requires-clause-reached
-inner_states-requires-clause-reached g c = rw c.small-small.ensures at c.in_ok-reached.ensures.exact
+pub told-requires-clause-reached : goal.told-requires-clause-reached
+told-requires-clause-reached g c = rw c.small-small.ensures at c.in_ok-reached.ensures.exact
 
 pub returns-in_err-exits-clause-worked : goal.returns-in_err-exits-clause-worked
 returns-in_err-exits-clause-worked g c =
@@ -35,29 +35,21 @@ returns-in_err-reached-clause-worked g c =
     states_of_heads c.args.points.now c.args.tracked.names c.args.program.now c.requires.formed c.args.blocks.now c.requires.blocks c.requires.lifted _ _ _ c.exits.ensures.never_falls
     (rw c.small-small.ensures at c.exits.ensures.bounded) c.reach_by_exits.ensures.never_falls (rw c.small-small.ensures at c.reach_by_exits.ensures.counts_no_more)
 
-pub returns-in_err-inner-clause-worked : goal.returns-in_err-inner-clause-worked
-returns-in_err-inner-clause-worked g c =
-    within_bound c.args.points.now c.args.tracked.names c.args.program.now c.requires.formed c.args.blocks.now c.requires.blocks c.requires.lifted _ _ _ _ c.exits.ensures.never_falls
-    (rw c.small-small.ensures at c.exits.ensures.bounded) c.reach_by_exits.ensures.never_falls (rw c.small-small.ensures at c.reach_by_exits.ensures.counts_no_more)
-    c.inner_states.ensures.never_falls c.inner_states.ensures.counts_no_more
-
 pub returns-in_err-certs-clause-worked : goal.returns-in_err-certs-clause-worked
 returns-in_err-certs-clause-worked g c =
-    within_bound c.args.points.now c.args.tracked.names c.args.program.now c.requires.formed c.args.blocks.now c.requires.blocks c.requires.lifted _ _ _ _ c.exits.ensures.never_falls
+    states_of_heads c.args.points.now c.args.tracked.names c.args.program.now c.requires.formed c.args.blocks.now c.requires.blocks c.requires.lifted _ _ _ c.exits.ensures.never_falls
     (rw c.small-small.ensures at c.exits.ensures.bounded) c.reach_by_exits.ensures.never_falls (rw c.small-small.ensures at c.reach_by_exits.ensures.counts_no_more)
-    c.inner_states.ensures.never_falls c.inner_states.ensures.counts_no_more
 
 pub returns-in_err-words-clause-worked : goal.returns-in_err-words-clause-worked
 returns-in_err-words-clause-worked g c =
-    within_bound c.args.points.now c.args.tracked.names c.args.program.now c.requires.formed c.args.blocks.now c.requires.blocks c.requires.lifted _ _ _ _ c.exits.ensures.never_falls
+    states_of_heads c.args.points.now c.args.tracked.names c.args.program.now c.requires.formed c.args.blocks.now c.requires.blocks c.requires.lifted _ _ _ c.exits.ensures.never_falls
     (rw c.small-small.ensures at c.exits.ensures.bounded) c.reach_by_exits.ensures.never_falls (rw c.small-small.ensures at c.reach_by_exits.ensures.counts_no_more)
-    c.inner_states.ensures.never_falls c.inner_states.ensures.counts_no_more
 
 pub returns-in_err-points-clause-worked : goal.returns-in_err-points-clause-worked
 returns-in_err-points-clause-worked g c =
     within_bound c.args.points.now c.args.tracked.names c.args.program.now c.requires.formed c.args.blocks.now c.requires.blocks c.requires.lifted _ _ _ _ c.exits.ensures.never_falls
     (rw c.small-small.ensures at c.exits.ensures.bounded) c.reach_by_exits.ensures.never_falls (rw c.small-small.ensures at c.reach_by_exits.ensures.counts_no_more)
-    c.inner_states.ensures.never_falls c.inner_states.ensures.counts_no_more
+    c.told.ensures.never_falls c.told.ensures.counts_no_more
 
 pub words_of-requires : goal.words_of-requires
 words_of-requires g c = rw c.as_slice.ensures (λ k d below. (c.in_ok-certs.ensures.each k d below).among)
@@ -94,16 +86,17 @@ returns-clause-made g c =
         told = λ u code point at is. told_each program c.args.points.now c.args.tracked.names c.in_ok-points.points c.in_ok-points.ensures.told u code point at is;
       };
       rows = λ lists are bases.
-          let e = rows_of_states program c.requires.formed c.args.blocks.now b lists c.in_ok-reached.reached c.in_ok-inner.inner.items are bases
-          (rw c.small-small.ensures at c.in_ok-reached.ensures.exact) c.known_states.ensures c.in_ok-inner.ensures.exact in
+          let inner = c.in_ok-points.ensures.counts_rows in
+          let e = rows_of_states program c.requires.formed c.args.blocks.now b lists c.in_ok-reached.reached inner.inner are bases
+          (rw c.small-small.ensures at c.in_ok-reached.ensures.exact) c.known_states.ensures inner.states in
           let counted = c.in_ok-reached.ensures.counts_rows in
-          let inner = c.in_ok-inner.ensures.counts_rows in
+          let rows = inner.rows in
           let falls = c.exits.ensures.never_falls in
-          omega (arith, e, counted, inner, falls);
+          omega (arith, e, counted, rows, falls);
     }
 
 pub returns-clause-worked : goal.returns-clause-worked
 returns-clause-worked g c =
     within_bound c.args.points.now c.args.tracked.names c.args.program.now c.requires.formed c.args.blocks.now c.requires.blocks c.requires.lifted _ _ _ _ c.exits.ensures.never_falls
     (rw c.small-small.ensures at c.exits.ensures.bounded) c.reach_by_exits.ensures.never_falls (rw c.small-small.ensures at c.reach_by_exits.ensures.counts_no_more)
-    c.inner_states.ensures.never_falls c.inner_states.ensures.counts_no_more
+    c.told.ensures.never_falls c.told.ensures.counts_no_more
