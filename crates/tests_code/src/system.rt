@@ -3,8 +3,8 @@
 ghost use Rattle.std.specs.Prelude.{◌≤◌, IfOk, None};
 
 use outside::{
-    DiskFiles, Failed, Files, ReadError, Sink, StdSink, flush_once, put_to, read_all, read_once,
-    write_all, write_once,
+    DiskFiles, Failed, Files, Kept, Opens, ReadError, Sink, StdSink, flush_once, put_to, read_all,
+    read_counted, read_once, write_all, write_once,
 };
 use std::alloc::{AllocError, Global};
 use std::io::{ErrorKind, Read, Write};
@@ -208,6 +208,65 @@ fn tries_again(calls: usize) -> bool {
 #[test]
 fn tries_again_where_it_was_interrupted(rt: HostRuntime) {
     assert!(rt; tries_again(0) && tries_again(1) && tries_again(3));
+}
+
+/// A reader that gives 3 bytes a call of these digits, and fails when so many calls were made.
+#[derive(Drop)]
+struct Digits {
+    at: usize,
+    calls: usize,
+}
+
+const DIGITS: &[u8] = b"0123456789";
+
+impl Read for Digits {
+    fn read(&mut self, buf: &mut [u8]) -> io::Result<usize> {
+        if self.calls == 0 {
+            return Err(io::Error::from(ErrorKind::IsADirectory));
+        }
+        self.calls -= 1;
+        let at = self.at.min(DIGITS.len());
+        let n = (DIGITS.len() - at).min(buf.len()).min(3);
+        buf[..n].copy_from_slice(&DIGITS[at..at + n]);
+        self.at = at + n;
+        Ok(n)
+    }
+}
+
+/// Opens such readers by any name.
+#[derive(Drop)]
+struct OfDigits {
+    calls: usize,
+}
+
+impl Opens for OfDigits {
+    type File = Digits;
+
+    ghost contents = { λ _ _. None };
+
+    fn open(&self, _name: &str) -> io::Result<Digits> {
+        Ok(Digits {
+            at: 0,
+            calls: self.calls,
+        })
+    }
+}
+
+/// Reads at 0 and then at a place, by readers that fail at a call: what the second gives, and the faults.
+fn read_second(alloc: Global, calls: usize, at: u64) -> (Result<usize, Failed>, u8, u64) {
+    let opens = OfDigits { calls };
+    let mut kept: Option<Kept<Digits>> = None;
+    let (mut faults, mut bytes) = (0, [0u8; 4]);
+    let _ = read_counted(alloc, &opens, &mut kept, &mut faults, "f", 0, &mut bytes);
+    let second = read_counted(alloc, &opens, &mut kept, &mut faults, "f", at, &mut bytes);
+    (second, bytes[0], faults)
+}
+
+#[test]
+fn reads_on_to_a_place_or_counts_a_fault(rt: HostRuntime) {
+    assert!(rt; read_second(rt.alloc(), 9, 5) == (Ok(3), b'5', 0));
+    assert!(rt; read_second(rt.alloc(), 9, 20).0 == Ok(0));
+    assert!(rt; read_second(rt.alloc(), 2, 5) == (Err(Failed), b'0', 1));
 }
 
 /// A sink of a writer that takes 3 bytes a call, so often, and whose flush may fail.

@@ -17,4 +17,6 @@ mod report_tests;
 #[cfg(test)]
 mod symbol_tests;
 #[cfg(test)]
+mod watch_tests;
+#[cfg(test)]
 mod words_tests;

@@ -4,4 +4,5 @@ mod MemoryWanting
 mod LowStatuses
 mod NoFault
 mod ReportsDone
+mod MadeUnrefused
 mod OrdersDone

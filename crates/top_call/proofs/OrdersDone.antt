@@ -18,6 +18,7 @@ use Rattle.order_answers.specs.GenText.{gen_text}
 use Rattle.order_answers.specs.ReportAnswers.{IsRun, IsUpgrade}
 use Rattle.top_call.specs.Answers.{no_registers, run, no_start, IsCarriedOut}
 use Rattle.top_call.specs.Completeness.{IsUnrefused, IsTold, IsReportFor, IsOld, IsUnhindered, Checked, Done, IsDone}
+use Rattle.top_call.proofs.MadeUnrefused.{made_unrefused}
 use Rattle.top_call.proofs.ReportsDone.{both_done, run_done, upgrade_done}
 
 answer_done : (told : Report → List CertLine → List ℕ) (list bytes : List ℕ) (status : ℕ) (text : List ℕ) →
@@ -49,7 +50,7 @@ gen_done : (n : ℕ) (list : List ℕ) (c : Call) (status : ℕ) (text : List �
     status ≡ 0
 gen_done n list c status text (within, free) (out_of_range status' text' out is line) = absurd (in_range_only n within out)
 gen_done n list c status text (within, free) (generated status' text' bytes made is) =
-    answer_done (gen_text n bytes) list bytes status text (free bytes made) is
+    answer_done (gen_text n bytes) list bytes status text (made_unrefused n list bytes made (free bytes made)) is
 
 over_done : (contents : Option (List ℕ)) (IsCause : List ℕ → Refusal → Type 0) (answer : List ℕ → ℕ → List ℕ → Type 0) →
     ((bytes : List ℕ) (status : ℕ) (text : List ℕ) → IsUnrefused (IsCause bytes) bytes → answer bytes status text → status ≡ 0) →

@@ -5,9 +5,11 @@
 --   IsReportFor bytes told report   what is told is the text of this report of words, which isn't too long, and whose slots'
 --                               procedures and points are the file's
 --   IsOld bytes report          the report is of version 1, and no program for its names has too many heads
---   IsUnhindered order c        the order is none of usage, and the contents of its file are told, or its number is in range, and
---                               nothing refuses them and its list; and where it names a report, its contents are told, and are
---                               one of the file, and of an old one for an upgrade; the registers of a run are a list of registers
+--   IsListTaken bytes list      want of memory is the one cause for which the list is refused over the bytes' image and points
+--   IsUnhindered order c        the order is none of usage, and the contents of its file are told and nothing refuses them and its
+--                               list, or its number is in range and nothing refuses its list over the file made from it; and where
+--                               it names a report, its contents are told, and are one of the file, and of an old one for an upgrade;
+--                               the registers of a run are a list of registers
 --   Done Is status text         so it is, with status 0
 --   Checked Is status text      so it is, with status 0 or 7
 --   IsDone order c answer       the call ends with such a status and the order's whole text, or as a fault or want of memory has it
@@ -16,12 +18,15 @@ use Rattle.elf_image.specs.declared.image.Image.{Image}
 use Rattle.flow_points.specs.PointLists.{FlowPoints}
 use Rattle.affine_prog.specs.declared.Program.{Program}
 use Rattle.affine_lift.specs.Lifting.{IsLifted}
+use Rattle.affine_lift.specs.Tracking.{IsTrackRefusal, scope_of}
+use Rattle.refusals.specs.declared.track.TrackRefusal as tracks
+use Rattle.refusals.specs.declared.track.TrackRefusal.{TrackRefusal}
 use Rattle.gen_elf.specs.Generated.{IsGenerated, IsInRange}
 use Rattle.report_text.specs.Text.{text_of}
 use Rattle.report_text.specs.declared.reports.Report.{Report}
 use Rattle.report_read.specs.Written.{IsOfWords}
 use Rattle.run_answers.specs.Laws.{IsOfFile}
-use Rattle.analyser_core.specs.Accepted.{IsRefusal, most_bytes}
+use Rattle.analyser_core.specs.Accepted.{HasPoints, IsImageOf, IsRefusal, most_bytes}
 use Rattle.analyser_core.specs.Heads.{HasManyHeads}
 use Rattle.analyser_core.specs.declared.refusal.Refusal.{Refusal}
 use Rattle.analyser_core.specs.declared.refusal.Refusal.TheVariants.{Memory}
@@ -54,6 +59,11 @@ pub record IsOld (bytes : List ℕ) (report : Report) : Type 0 where
   pub few_heads : (image : Image) (points : FlowPoints) (program : Program) → IsCode bytes image points →
       IsLifted points report.tracked.names program → HasManyHeads program → ⊥
 
+abbrev pub IsListTaken : List ℕ → List ℕ → Type 0
+IsListTaken bytes list =
+    (image : Image) (points : FlowPoints) (refusal : TrackRefusal) → IsImageOf bytes image → HasPoints image points
+    → IsTrackRefusal (scope_of image.symbols points.procedures) list refusal → refusal ≡ tracks.TheVariants.Memory
+
 abbrev pub IsUnhindered : Order → Call → Type 0
 IsUnhindered Usage c = ⊥
 IsUnhindered (Analyse file list) c = IsTold (c.contents file) (λ bytes. IsUnrefused (IsRefusal bytes list) bytes)
@@ -63,7 +73,7 @@ IsUnhindered (CheckRun file report steps regs) c =
     ((start : List ℕ) × IsStart regs (Some start))
     × IsTold (c.contents file) (λ bytes. IsUnrefused (IsListRefusal bytes) bytes
     × IsTold (c.contents report) (λ told. (old : Report) × IsReportFor bytes told old))
-IsUnhindered (Generate n list) c = IsInRange n × ((bytes : List ℕ) → IsGenerated n bytes → IsUnrefused (IsRefusal bytes list) bytes)
+IsUnhindered (Generate n list) c = IsInRange n × ((bytes : List ℕ) → IsGenerated n bytes → IsListTaken bytes list)
 IsUnhindered (Upgrade file report) c =
     IsTold (c.contents file) (λ bytes. IsUnrefused (IsListRefusal bytes) bytes
     × IsTold (c.contents report) (λ told. (old : Report) × IsReportFor bytes told old × IsOld bytes old))
