@@ -62,7 +62,8 @@ fn runs_under_watches(alloc: Global, status: u8, text: &[u8]) -> Result<bool, Fa
 
 /// With a0 = 0 the procedure doesn't call itself, and returns to the `ebreak` at 0x1007c.
 #[test]
-fn a_run_under_watches(rt: HostRuntime) {
+fn a_run_under_watches(rt: HostRuntime) -> Result<(), Fail> {
     let verdict = b"affine-run 1\nsteps 7\nstop break 0x1007c\nend\n".as_slice();
-    assert!(rt; matches!(runs_under_watches(rt.alloc(), 0, verdict), Ok(true)));
+    assert!(rt; runs_under_watches(rt.alloc(), 0, verdict)?);
+    Ok(())
 }

@@ -1,0 +1,5 @@
+mod Places
+mod Orders
+mod Steps
+mod Behind
+mod Whole
