@@ -12,7 +12,7 @@ use Rattle.flow_points.specs.PointLists.{FlowPoints}
 use Rattle.frame_offsets.specs.Frames.{AreOffsetsOf}
 use Rattle.report_text.specs.Text.{text_of}
 use Rattle.report_text.specs.declared.reports.Report.{Report}
-use Rattle.report_read.specs.Telling.{IsTold}
+use Rattle.report_read.specs.Telling.{IsTextTold}
 use Rattle.refusals.specs.declared.report.ReportRefusal as reports
 use Rattle.refusals.specs.declared.report.ReportRefusal.{ReportRefusal}
 use Rattle.run_answers.specs.Answers.{IsReadIn, IsRunAnswer}
@@ -36,7 +36,7 @@ pub data IsRun (start : List ℕ) (steps : ℕ) (bytes report : List ℕ) : ℕ 
       IsRun start steps bytes report status text
 
 pub data IsUpgradeAnswer (points : FlowPoints) (report : List ℕ) : ℕ → List ℕ → Type 0 where
-  no_report : (status : ℕ) (text : List ℕ) (refusal : ReportRefusal) → IsTold report (Err refusal) → refusal ≢ reports.TheVariants.Memory →
+  no_report : (status : ℕ) (text : List ℕ) (refusal : ReportRefusal) → IsTextTold report (Err refusal) → refusal ≢ reports.TheVariants.Memory →
       status ≡ 6 → text ≡ report_line refusal → IsUpgradeAnswer points report status text
   not_upgraded : (status : ℕ) (text : List ℕ) (old : Report) (refusal : UpgradeRefusal) → IsReadIn report old →
       IsUpgradeRefusal points old refusal → refusal ≢ upgrades.TheVariants.Memory → status ≡ upgrade_status refusal →

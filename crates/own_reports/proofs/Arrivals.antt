@@ -24,7 +24,7 @@ use Rattle.own_reports.proofs.Truth.{tells_at}
 
 module _ (image : Image) (lift : Lift) (is : IsLiftOf image lift) (start : List ℕ) where
   -- an open path of activations ends at a node where the program has one
-  open_end : (activations : List Activation) (maps : List (List ℕ)) (c : CodePoint) → IsOpenPath lift activations maps c
+  pub open_end : (activations : List Activation) (maps : List (List ℕ)) (c : CodePoint) → IsOpenPath lift activations maps c
       → (state : List ℕ) × OpenPath lift.program start (node lift c.point) state
   open_end [] maps c h = absurd h
   open_end (a ∷ []) [] c h = absurd h

@@ -2,6 +2,7 @@
 
 ghost use Rattle.own_reports.specs.Checked.{OwnReportsFailForCause, OwnRunsFailForCause};
 ghost use Rattle.own_reports.specs.One.{ReportsAreOne};
+ghost use Rattle.own_reports.specs.Paths.{OpenPathsAreThePrograms};
 ghost use Rattle.own_reports.specs.Reached.{RunsAreWhereRowsAre};
 ghost use Rattle.own_reports.specs.Unrefused.{ReportsAreUnrefused};
 
@@ -18,6 +19,11 @@ pub fn own_reports_fail_for_cause()
     failures_are_caused();
     reports_tell_of_runs();
 }
+
+/// An open path of activations, as a run spells it, ends where an open path of its program ends.
+pub fn open_paths_are_the_programs()
+    ensures { OpenPathsAreThePrograms }
+{}
 
 /// A run of the machine that keeps the discipline up to a moment is at no moment up to it at a point that the report of its
 /// file's analysis calls unreached.

@@ -10,7 +10,7 @@ use Rattle.report_text.specs.declared.names.Name.{Name}
 use Rattle.report_text.specs.Names.{IsName, IsSeenIn, IsSeenAt}
 use Rattle.report_text.specs.Text.{name_text}
 use Rattle.report_lines.specs.NameTexts.{IsAddressed}
-use Rattle.report_lines.specs.Relations.{IsKnown, place_in}
+use Rattle.report_lines.specs.Relations.{IsSeenName, place_in}
 use Rattle.report_lines.specs.Places.{IsFirst}
 use Rattle.report_lines.proofs.NamesTold.{one_name}
 
@@ -50,7 +50,7 @@ module _ (names : List Name) (allowed : All IsName names) (addressed : All IsAdd
       (λ lt. (bytes_eq-Decides _ text).1 (ap name_text (stands.here name lt) ∙ sym is)))
 
   -- a text that no name has isn't known
-  pub not_known : (text : List ℕ) (p : ℕ) (d : Name) → ((name : Name) → IsName name → IsAddressed name → text ≢ name_text name) → IsKnown names p text → ⊥
+  pub not_known : (text : List ℕ) (p : ℕ) (d : Name) → ((name : Name) → IsName name → IsAddressed name → text ≢ name_text name) → IsSeenName names p text → ⊥
   not_known text p d none h =
       let lt = (seen_there names p (place_in names text) d h).0 in
       none (get_or names (place_in names text) d) (All-get_or IsName names _ d lt allowed) (All-get_or IsAddressed names _ d lt addressed)

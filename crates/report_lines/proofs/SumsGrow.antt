@@ -12,7 +12,7 @@ use Rattle.report_text.specs.declared.names.Name.TheVariants.{Register}
 use Rattle.report_text.specs.Names.{IsSeenAt}
 use Rattle.report_text.specs.Text.{name_text}
 use Rattle.report_lines.specs.Terms.{Term, IsFactor}
-use Rattle.report_lines.specs.Relations.{AreKnown, AreRising, IsKnown, IsRowOf, place_in, terms_of}
+use Rattle.report_lines.specs.Relations.{AreKnown, AreRising, IsSeenName, IsRowOf, place_in, terms_of}
 use Rattle.report_lines.specs.Sums.{IsRowSoFar}
 use Rattle.report_lines.proofs.Placed.{named_there}
 use Rattle.report_lines.proofs.Rows.{set_terms, set_beyond}
@@ -36,17 +36,17 @@ module _ (names : List Name) (p : ℕ) (terms : List Term) (w : ℕ) (text : Lis
   more = terms ++ (w, text) ∷ []
 
   pub known_before : AreKnown names p (terms ++ (w, text) ∷ []) → AreKnown names p terms
-  known_before h = (All-pop (λ term. IsKnown names p term.1) (terms ++ (w, text) ∷ []) terms (Some (w, text)) refl h).0
+  known_before h = (All-pop (λ term. IsSeenName names p term.1) (terms ++ (w, text) ∷ []) terms (Some (w, text)) refl h).0
 
-  pub known_last : AreKnown names p (terms ++ (w, text) ∷ []) → IsKnown names p text
-  known_last h = (All-pop (λ term. IsKnown names p term.1) (terms ++ (w, text) ∷ []) terms (Some (w, text)) refl h).1
+  pub known_last : AreKnown names p (terms ++ (w, text) ∷ []) → IsSeenName names p text
+  known_last h = (All-pop (λ term. IsSeenName names p term.1) (terms ++ (w, text) ∷ []) terms (Some (w, text)) refl h).1
 
   pub rising_before : AreRising names (terms ++ (w, text) ∷ []) → AreRising names terms
   rising_before h = pairs_front (λ s t. place_in names s.1 < place_in names t.1) terms (w, text) h
 
   module _ (place : ℕ) (is : place ≡ place_in names text) (lt : place < length names) (seen : IsSeenAt names p place) where
     pub known_more : AreKnown names p terms → AreKnown names p (terms ++ (w, text) ∷ [])
-    known_more h = All-push (λ term. IsKnown names p term.1) terms (w, text) h (subst (IsSeenAt names p) is seen)
+    known_more h = All-push (λ term. IsSeenName names p term.1) terms (w, text) h (subst (IsSeenAt names p) is seen)
 
     -- a place before that of the last term
     pub falls : (row : List ℕ) (next : ℕ) → IsRowSoFar names p terms row next → place < next → AreRising names (terms ++ (w, text) ∷ []) → ⊥

@@ -6,7 +6,7 @@
 use Rattle.std.specs.Prelude.{◌≡◌, ◌≢◌, ℕ, ◌<◌, ◌≤◌, List, length, Option, Some, None, slice_index_or}
 use Rattle.report_text.specs.declared.names.Name.{Name}
 use Rattle.report_text.specs.Names.{IsSeenAt}
-use Rattle.report_lines.specs.Relations.{IsKnown, place_in}
+use Rattle.report_lines.specs.Relations.{IsSeenName, place_in}
 
 pub record IsFirst (names : List Name) (name : Name) (k : ℕ) : Type 0 where
   pub within : k ≤ length names
@@ -14,5 +14,5 @@ pub record IsFirst (names : List Name) (name : Name) (k : ℕ) : Type 0 where
   pub here : (d : Name) → k < length names → slice_index_or names k d ≡ name
 
 abbrev pub IsPlace : List Name → ℕ → List ℕ → Option ℕ → Type 0
-IsPlace names p text None = IsKnown names p text → ⊥
+IsPlace names p text None = IsSeenName names p text → ⊥
 IsPlace names p text (Some k) = (k ≡ place_in names text) × (k < length names) × IsSeenAt names p k

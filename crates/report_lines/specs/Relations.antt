@@ -5,7 +5,7 @@
 --   relation_text terms c     these words with a space between each two
 --   IsRelation terms c        there is a lead, and the words are such as can be written
 --   place_in names text       the position of the first name with this text, and how many names there are where none has it
---   IsKnown names p text      it is the text of a name that is seen in procedure p
+--   IsSeenName names p text      it is the text of a name that is seen in procedure p
 --   AreKnown names p terms    each term's name is such a text
 --   AreRising names terms     the positions of the terms' names rise
 --   terms_of names row        the row's words that aren't 0, each with its name's text, in order of positions
@@ -40,11 +40,11 @@ IsRelation (lead ∷ terms) c = IsLead lead × All IsTerm terms × (c < 2 ^ 64)
 abbrev pub place_in : List Name → List ℕ → ℕ
 place_in names text = position_or_len (λ name. bytes_eq (name_text name) text) names
 
-abbrev pub IsKnown : List Name → ℕ → List ℕ → Type 0
-IsKnown names p text = IsSeenAt names p (place_in names text)
+abbrev pub IsSeenName : List Name → ℕ → List ℕ → Type 0
+IsSeenName names p text = IsSeenAt names p (place_in names text)
 
 abbrev pub AreKnown : List Name → ℕ → List Term → Type 0
-AreKnown names p terms = All (λ term. IsKnown names p term.1) terms
+AreKnown names p terms = All (λ term. IsSeenName names p term.1) terms
 
 abbrev pub AreRising : List Name → List Term → Type 0
 AreRising names terms = AllPairs (λ s t. place_in names s.1 < place_in names t.1) terms

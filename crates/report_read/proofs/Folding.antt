@@ -9,7 +9,7 @@ use Rattle.refusals.specs.declared.report.ReportRefusal.{ReportRefusal}
 use Rattle.refusals.specs.declared.report.ReportRefusal.TheVariants as refusals
 use Rattle.report_read.specs.Judging.{IsEndJudged, IsJudged, IsLineJudged, IsReportOf, goes_on, refused, rows, unfinished, whole}
 use Rattle.report_read.specs.Steps.{IsStep}
-use Rattle.report_read.specs.Telling.{begun, IsEndTold, IsFirstLine, IsJudgedOr, IsTold, IsTrackJudged, IsTrackTold, header, Outcome, UnlessMemory}
+use Rattle.report_read.specs.Telling.{begun, IsEndTold, IsFirstLine, IsJudgedOr, IsTextTold, IsTrackJudged, IsTrackTold, header, Outcome, UnlessMemory}
 
 -- a line and what follows it
 pub judged_on : (piece : List ℕ) (parts : List (List ℕ)) (k : ℕ) (d : Draft) (r : Outcome) → 0 < length parts
@@ -72,7 +72,7 @@ lines_told version text piece behind texts tracked (Err (refusals.NotReduced n))
 
 pub text_told : (version : ℕ) (bytes piece behind : List ℕ) (r : Outcome) → IsFirstLine bytes piece behind → 1 ≤ version
     → version ≤ 2 → piece ≡ header_text version
-    → IsTrackTold version behind r → IsTold bytes r
+    → IsTrackTold version behind r → IsTextTold bytes r
 text_told version bytes piece behind (Ok report) line low high is j = header piece behind version line low high is j
 text_told version bytes piece behind (Err refusals.Memory) line low high is j = tt
 text_told version bytes piece behind (Err (refusals.Syntax n)) line low high is j = header piece behind version line low high is j

@@ -12,7 +12,7 @@ use Rattle.report_lines.specs.NameTexts.{IsAddressed}
 use Rattle.report_lines.specs.Parts.{HasNo}
 use Rattle.report_lines.specs.Lines.{Rel, line_text}
 use Rattle.report_lines.specs.Terms.{Term, IsFactor, IsTerm}
-use Rattle.report_lines.specs.Relations.{AreKnown, IsKnown, IsRelation, relation_text, relation_words, terms_of}
+use Rattle.report_lines.specs.Relations.{AreKnown, IsSeenName, IsRelation, relation_text, relation_words, terms_of}
 use Rattle.report_lines.proofs.NamesTold.{name_has_no, some_name}
 use Rattle.report_lines.proofs.WordsRead.{words_clean}
 use Rattle.report_read.proofs.RelationTexts.{rel_line}
@@ -40,8 +40,8 @@ module _ (names : List Name) (allowed : All IsName names) (addressed : All IsAdd
       let t = term_at 10 (λ name a b. name_has_no 10 name refl (omega arith) refl refl refl refl a b) k lt some in (t.0, t.2))
 
   pub all_known : AreKnown names entry (terms_of names row)
-  all_known = All-from_recursion (λ term. IsKnown names entry term.1) (terms_of names row)
-      (each_term (λ term. IsKnown names entry term.1) names row (Register 0)
+  all_known = All-from_recursion (λ term. IsSeenName names entry term.1) (terms_of names row)
+      (each_term (λ term. IsSeenName names entry term.1) names row (Register 0)
       (λ k lt wide some. subst (IsSeenAt names entry) (sym (own_place names allowed addressed distinct k (Register 0) lt)) (there.seen k (omega arith) some)))
 
   pub leads : HasLead names row (λ t. (1 ≤ t.0) × (t.0 ≤ 2 ^ 63))

@@ -6,7 +6,7 @@ use Rattle.report_text.specs.declared.reports.Report.{Report}
 use Rattle.report_text.specs.Text.{text_of}
 use Rattle.refusals.specs.declared.report.ReportRefusal.{ReportRefusal}
 use Rattle.refusals.specs.declared.report.ReportRefusal.TheVariants as refusals
-use Rattle.report_read.specs.Telling.{IsTextJudged, IsTold, Outcome}
+use Rattle.report_read.specs.Telling.{IsTextJudged, IsTextTold, Outcome}
 use Rattle.report_read.specs.Written.{IsOfWords, IsReadAs}
 use Rattle.report_read.proofs.OneTelling.{all_apart}
 use Rattle.report_read.proofs.Sets.{report_set}
@@ -27,7 +27,7 @@ okay report = Ok report
 abbrev pub wrong : ReportRefusal → Outcome
 wrong refusal = Err refusal
 
-pub read_as : (report : Report) (bytes : List ℕ) (r : Outcome) → IsTextJudged bytes (Ok report) → IsTold bytes r
+pub read_as : (report : Report) (bytes : List ℕ) (r : Outcome) → IsTextJudged bytes (Ok report) → IsTextTold bytes r
     → IsReadAs report r
 read_as report bytes (Ok read) judged told = let e : okay read ≡ okay report = one_telling bytes (Ok read) (Ok report) told judged in cc
 read_as report bytes (Err refusals.Memory) judged told = tt
@@ -39,7 +39,7 @@ read_as report bytes (Err (refusals.NotReduced n)) judged told =
     let e : wrong (refusals.NotReduced n) ≡ okay report = one_telling bytes (Err (refusals.NotReduced n)) (Ok report) told judged in absurd cc
 
 -- a report's text is read as the report
-pub text_read : (report : Report) (bytes : List ℕ) (r : Outcome) → IsOfWords report → bytes ≡ text_of report → IsTold bytes r
+pub text_read : (report : Report) (bytes : List ℕ) (r : Outcome) → IsOfWords report → bytes ≡ text_of report → IsTextTold bytes r
     → IsReadAs report r
 text_read report bytes r words is told =
     ∥∥₁_elim report.without goal_prop (λ without. ∥∥₁_elim report.certified goal_prop (λ certified. ∥∥₁_elim report.ascending goal_prop (λ ascending. ∥∥₁_elim report.reduced goal_prop (λ reduced.

@@ -14,7 +14,7 @@ use Rattle.report_lines.specs.Parts.{parts_of}
 use Rattle.report_lines.specs.Tracks.{track_text}
 use Rattle.refusals.specs.declared.report.ReportRefusal.{ReportRefusal}
 use Rattle.refusals.specs.declared.report.ReportRefusal.TheVariants as refusals
-use Rattle.report_read.specs.Telling.{begun, IsTextJudged, IsTold, IsTrackJudged, Outcome, header, lines, missing, no_header, no_names, repeated, unknown}
+use Rattle.report_read.specs.Telling.{begun, IsTextJudged, IsTextTold, IsTrackJudged, Outcome, header, lines, missing, no_header, no_names, repeated, unknown}
 use Rattle.report_read.proofs.Found.{found}
 use Rattle.report_read.proofs.Reaching.{Reaches}
 use Rattle.report_read.proofs.Left.{ending}
@@ -71,6 +71,6 @@ text_found bytes report (header piece behind version line low high is judged) =
     line.text_is ∙ ap (λ (xs : List ℕ). xs ++ 10 ∷ behind) is ∙ track_found version behind report judged
 
 -- what is told to be a report
-pub told_found : (bytes : List ℕ) (r : Outcome) → IsTold bytes r → IfOk r (λ report. bytes ≡ text_of report)
+pub told_found : (bytes : List ℕ) (r : Outcome) → IsTextTold bytes r → IfOk r (λ report. bytes ≡ text_of report)
 told_found bytes (Ok report) told = text_found bytes report told
 told_found bytes (Err refusal) told = search rules

@@ -6,7 +6,7 @@
 --   IsTrackJudged version text r   r is what is told of the text behind the first line of this version
 --   IsTextJudged bytes r           r is what is told of the bytes
 --   UnlessMemory judged r          r is judged so; want of memory is free
---   IsJudgedOr parts k d r, IsTrackTold version text r, IsTold bytes r   r is what is told; want of memory is free
+--   IsJudgedOr parts k d r, IsTrackTold version text r, IsTextTold bytes r   r is what is told; want of memory is free
 --   IsEndTold k d rest r           the same of the end, where r has what the report became
 use Rattle.std.specs.Prelude.{◌≡◌, ◌≢◌, ℕ, ◌≤◌, List, [], ◌∷◌, ◌++◌, All, AllPairs, Result, Ok, Err}
 use Rattle.report_text.specs.declared.names.Tracked.{Tracked}
@@ -69,8 +69,8 @@ IsJudgedOr parts k d r = UnlessMemory (IsJudged parts k d) r
 abbrev pub IsTrackTold : ℕ → List ℕ → Outcome → Type 0
 IsTrackTold version text r = UnlessMemory (IsTrackJudged version text) r
 
-abbrev pub IsTold : List ℕ → Outcome → Type 0
-IsTold bytes r = UnlessMemory (IsTextJudged bytes) r
+abbrev pub IsTextTold : List ℕ → Outcome → Type 0
+IsTextTold bytes r = UnlessMemory (IsTextJudged bytes) r
 
 abbrev pub IsEndTold : ℕ → Draft → List ℕ → Result Draft ReportRefusal → Type 0
 IsEndTold k d rest (Ok draft) = (d.place ≡ places.End) × (rest ≡ []) × (draft ≡ d)

@@ -7,7 +7,7 @@ ghost use Rattle.report_lines.specs.NameTexts.{IsAddressed};
 ghost use Rattle.report_read.specs.declared.draft.Place.TheVariants as places;
 ghost use Rattle.report_text.specs.declared.reports.Report.{Report};
 ghost use Rattle.report_read.specs.Written.{IsOfWords, IsReadAs};
-ghost use Rattle.report_read.specs.Telling.{IsEndTold, IsJudgedOr, IsTold, IsTrackTold, begun};
+ghost use Rattle.report_read.specs.Telling.{IsEndTold, IsJudgedOr, IsTextTold, IsTrackTold, begun};
 
 use crate::draft::{Draft, Place};
 use crate::judging::{close, judge};
@@ -21,14 +21,14 @@ use std::alloc::Global;
 pub fn read_report(alloc: Global, bytes: &[u8]) -> Result<Report, ReportRefusal>
     ensures found { IfOk result (λ report. bytes.now ≡ text_of report) }
     ensures only { (report : Report) → IsOfWords report → bytes.now ≡ text_of report → IsReadAs report result }
-    ensures told { IsTold bytes.now result }
+    ensures told { IsTextTold bytes.now result }
 {
     read_text(alloc, bytes)
 }
 
 // The same by its lines.
 fn read_text(alloc: Global, bytes: &[u8]) -> Result<Report, ReportRefusal>
-    ensures { IsTold bytes.now result }
+    ensures { IsTextTold bytes.now result }
 {
     match cut_at(b'\n', bytes) {
         None => Err(ReportRefusal::Syntax(1)),

@@ -4,7 +4,7 @@
 --   findings seen           what fresh watches of these kinds find in what is seen of a run
 --   status_of found         7 where some watch found something, else 0
 --   IsReadIn bytes report   the bytes are the text of the report, and judged to tell it
---   IsKnown points report   the report tells of nothing that the file doesn't have
+--   HasNoStranger points report   the report tells of nothing that the file doesn't have
 --   IsChecked image points offsets report regs limit status text
 --                           the image was run from these registers for at most so many steps, and the text and the status are
 --                           those of the verdict of that run over this report
@@ -16,7 +16,7 @@ use Rattle.elf_image.specs.declared.image.Image.{Image}
 use Rattle.flow_points.specs.PointLists.{FlowPoints}
 use Rattle.report_text.specs.Text.{text_of}
 use Rattle.report_text.specs.declared.reports.Report.{Report}
-use Rattle.report_read.specs.Telling.{IsTold}
+use Rattle.report_read.specs.Telling.{IsTextTold}
 use Rattle.refusals.specs.declared.report.ReportRefusal.{ReportRefusal}
 use Rattle.refusals.specs.declared.report.ReportRefusal.TheVariants.{Memory}
 use Rattle.run_watch.specs.Runs.{Sight, IsRunOf, verdict}
@@ -38,10 +38,10 @@ status_of found = if has_found found then 7 else 0
 -- the second fact makes the report one: one thing is told of bytes
 pub record IsReadIn (bytes : List ℕ) (report : Report) : Type 0 where
   pub text : bytes ≡ text_of report
-  pub told : IsTold bytes (Ok report)
+  pub told : IsTextTold bytes (Ok report)
 
-abbrev pub IsKnown : FlowPoints → Report → Type 0
-IsKnown points report = (address : ℕ) → IsStranger points report.tracked.names report.points (Some address) → ⊥
+abbrev pub HasNoStranger : FlowPoints → Report → Type 0
+HasNoStranger points report = (address : ℕ) → IsStranger points report.tracked.names report.points (Some address) → ⊥
 
 pub record IsChecked (image : Image) (points : FlowPoints) (offsets : List (Option ℕ)) (report : Report) (regs : List ℕ)
     (limit status : ℕ) (text : List ℕ) : Type 0 where
@@ -54,11 +54,11 @@ pub record IsChecked (image : Image) (points : FlowPoints) (offsets : List (Opti
 
 pub data IsRunAnswer (image : Image) (points : FlowPoints) (offsets : List (Option ℕ)) (bytes regs : List ℕ) (limit status : ℕ)
     (text : List ℕ) : Type 0 where
-  refused : (refusal : ReportRefusal) → IsTold bytes (Err refusal) → refusal ≢ Memory → status ≡ 6 → text ≡ report_line refusal
+  refused : (refusal : ReportRefusal) → IsTextTold bytes (Err refusal) → refusal ≢ Memory → status ≡ 6 → text ≡ report_line refusal
       → IsRunAnswer image points offsets bytes regs limit status text
   strange : (report : Report) (address : ℕ) → IsReadIn bytes report
       → IsStranger points report.tracked.names report.points (Some address) → status ≡ 6 → text ≡ stranger_line address
       → IsRunAnswer image points offsets bytes regs limit status text
-  checked : (report : Report) → IsReadIn bytes report → IsKnown points report
+  checked : (report : Report) → IsReadIn bytes report → HasNoStranger points report
       → IsChecked image points offsets report regs limit status text
       → IsRunAnswer image points offsets bytes regs limit status text

@@ -18,7 +18,7 @@ use Rattle.report_text.specs.declared.names.Name.TheVariants.{Register, Slot}
 use Rattle.report_text.specs.declared.points.PointRows.{PointRows}
 use Rattle.report_text.specs.declared.reports.Report.{Report}
 use Rattle.report_read.specs.Written.{IsOfWords}
-use Rattle.run_answers.specs.Answers.{IsChecked, IsKnown, IsRunAnswer}
+use Rattle.run_answers.specs.Answers.{IsChecked, HasNoStranger, IsRunAnswer}
 
 abbrev pub IsVerdictStatus : ℕ → Type 0
 IsVerdictStatus status = (status ≡ 0) ⊎ (status ≡ 7)
@@ -26,7 +26,7 @@ IsVerdictStatus status = (status ≡ 0) ⊎ (status ≡ 7)
 abbrev pub KnownReportsAreChecked : Type 0
 KnownReportsAreChecked = (image : Image) (points : FlowPoints) (offsets : List (Option ℕ)) (report : Report)
     (bytes regs : List ℕ) (limit status : ℕ) (text : List ℕ) → IsOfWords report → bytes ≡ text_of report
-    → IsKnown points report → IsRunAnswer image points offsets bytes regs limit status text
+    → HasNoStranger points report → IsRunAnswer image points offsets bytes regs limit status text
     → IsChecked image points offsets report regs limit status text
 
 abbrev pub CheckedRunsHaveVerdicts : Type 0
@@ -46,4 +46,4 @@ pub record IsOfFile (points : FlowPoints) (report : Report) : Type 0 where
   pub places : All (IsPointOf points.points) report.points
 
 abbrev pub FilesReportsAreKnown : Type 0
-FilesReportsAreKnown = (points : FlowPoints) (report : Report) → IsOfFile points report → IsKnown points report
+FilesReportsAreKnown = (points : FlowPoints) (report : Report) → IsOfFile points report → HasNoStranger points report

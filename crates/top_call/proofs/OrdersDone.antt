@@ -17,7 +17,7 @@ use Rattle.order_answers.specs.CertsText.{certs_text}
 use Rattle.order_answers.specs.GenText.{gen_text}
 use Rattle.order_answers.specs.ReportAnswers.{IsRun, IsUpgrade}
 use Rattle.top_call.specs.Answers.{no_registers, run, no_start, IsCarriedOut}
-use Rattle.top_call.specs.Completeness.{IsUnrefused, IsTold, IsReportFor, IsOld, IsUnhindered, Checked, Done, IsDone}
+use Rattle.top_call.specs.Completeness.{IsUnrefused, HasContents, IsReportFor, IsOld, IsUnhindered, Checked, Done, IsDone}
 use Rattle.top_call.proofs.MadeUnrefused.{made_unrefused}
 use Rattle.top_call.proofs.ReportsDone.{both_done, run_done, upgrade_done}
 
@@ -54,7 +54,7 @@ gen_done n list c status text (within, free) (generated status' text' bytes made
 
 over_done : (contents : Option (List ℕ)) (IsCause : List ℕ → Refusal → Type 0) (answer : List ℕ → ℕ → List ℕ → Type 0) →
     ((bytes : List ℕ) (status : ℕ) (text : List ℕ) → IsUnrefused (IsCause bytes) bytes → answer bytes status text → status ≡ 0) →
-    IsTold contents (λ bytes. IsUnrefused (IsCause bytes) bytes) →
+    HasContents contents (λ bytes. IsUnrefused (IsCause bytes) bytes) →
     (status : ℕ) (text : List ℕ) → IsAnswerOver contents answer status text → IsAnswerOver contents (λ bytes. Done (answer bytes)) status text
 over_done (Some bytes) IsCause answer zero free status text is = (is, zero bytes status text free is)
 over_done None IsCause answer zero free status text is = absurd free

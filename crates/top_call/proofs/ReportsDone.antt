@@ -4,7 +4,7 @@ use Rattle.elf_image.specs.declared.image.Image.{Image}
 use Rattle.flow_points.specs.PointLists.{FlowPoints}
 use Rattle.report_text.specs.declared.reports.Report.{Report}
 use Rattle.report_read.proofs.ReportRead.{text_read}
-use Rattle.run_answers.specs.Answers.{IsKnown}
+use Rattle.run_answers.specs.Answers.{HasNoStranger}
 use Rattle.run_answers.proofs.FilesReports.{files_are_known}
 use Rattle.run_answers.proofs.OwnReports.{not_refused, known_are_checked, checked_have_verdicts}
 use Rattle.analyser_core.specs.Upgrades.{IsUpgradeRefusal}
@@ -29,7 +29,7 @@ module _ (bytes told : List ℕ) (free : IsUnrefused (IsListRefusal bytes) bytes
   both_read status text (refused_file s t is) = file_accepted bytes status text free is
   both_read status text (too_long_report s t image points code longer is line) = let short = of.short in omega arith
 
-  known : (image : Image) (points : FlowPoints) → IsCode bytes image points → IsKnown points old
+  known : (image : Image) (points : FlowPoints) → IsCode bytes image points → HasNoStranger points old
   known image points code = files_are_known points old (of.of_file image points code)
 
   pub run_done : (start : List ℕ) (steps status : ℕ) (text : List ℕ) → IsRun start steps bytes told status text →
@@ -59,7 +59,7 @@ module _ (bytes told : List ℕ) (free : IsUnrefused (IsListRefusal bytes) bytes
 pub both_done : (file report : Option (List ℕ)) (Free : List ℕ → List ℕ → Type 0) (answer too : List ℕ → List ℕ → ℕ → List ℕ → Type 0) →
     ((bytes told : List ℕ) (status : ℕ) (text : List ℕ) → IsUnrefused (IsListRefusal bytes) bytes → Free bytes told → answer bytes told status text →
     too bytes told status text) →
-    complete.IsTold file (λ bytes. IsUnrefused (IsListRefusal bytes) bytes × complete.IsTold report (Free bytes)) →
+    complete.HasContents file (λ bytes. IsUnrefused (IsListRefusal bytes) bytes × complete.HasContents report (Free bytes)) →
     (status : ℕ) (text : List ℕ) → IsOverBoth file report answer status text → IsOverBoth file report too status text
 both_done (Some bytes) (Some told) Free answer too gives (free, is_free) status text is = gives bytes told status text free is_free is
 both_done (Some bytes) None Free answer too gives (free, none) status text is = absurd none

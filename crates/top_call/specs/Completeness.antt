@@ -1,7 +1,7 @@
 -- Completeness: an order whose input nothing refuses is done.
 --
 --   IsUnrefused IsCause bytes   the bytes are no more than a file may have, and want of memory is the one cause of a refusal
---   IsTold contents Is          the contents are told, and Is holds of them
+--   HasContents contents Is     the contents are told, and Is holds of them
 --   IsReportFor bytes told report   what is told is the text of this report of words, which isn't too long, and whose slots'
 --                               procedures and points are the file's
 --   IsOld bytes report          the report is of version 1, and no program for its names has too many heads
@@ -44,9 +44,9 @@ pub record IsUnrefused (IsCause : Refusal → Type 0) (bytes : List ℕ) : Type 
   pub short : length bytes ≤ most_bytes
   pub only_memory : (refusal : Refusal) → IsCause refusal → refusal ≡ Memory
 
-abbrev pub IsTold : Option (List ℕ) → (List ℕ → Type 0) → Type 0
-IsTold (Some bytes) Is = Is bytes
-IsTold None Is = ⊥
+abbrev pub HasContents : Option (List ℕ) → (List ℕ → Type 0) → Type 0
+HasContents (Some bytes) Is = Is bytes
+HasContents None Is = ⊥
 
 pub record IsReportFor (bytes told : List ℕ) (report : Report) : Type 0 where
   pub short : length told ≤ most_report_bytes
@@ -66,17 +66,17 @@ IsListTaken bytes list =
 
 abbrev pub IsUnhindered : Order → Call → Type 0
 IsUnhindered Usage c = ⊥
-IsUnhindered (Analyse file list) c = IsTold (c.contents file) (λ bytes. IsUnrefused (IsRefusal bytes list) bytes)
-IsUnhindered (Certify file list) c = IsTold (c.contents file) (λ bytes. IsUnrefused (IsRefusal bytes list) bytes)
-IsUnhindered (ListCode file) c = IsTold (c.contents file) (λ bytes. IsUnrefused (IsListRefusal bytes) bytes)
+IsUnhindered (Analyse file list) c = HasContents (c.contents file) (λ bytes. IsUnrefused (IsRefusal bytes list) bytes)
+IsUnhindered (Certify file list) c = HasContents (c.contents file) (λ bytes. IsUnrefused (IsRefusal bytes list) bytes)
+IsUnhindered (ListCode file) c = HasContents (c.contents file) (λ bytes. IsUnrefused (IsListRefusal bytes) bytes)
 IsUnhindered (CheckRun file report steps regs) c =
     ((start : List ℕ) × IsStart regs (Some start))
-    × IsTold (c.contents file) (λ bytes. IsUnrefused (IsListRefusal bytes) bytes
-    × IsTold (c.contents report) (λ told. (old : Report) × IsReportFor bytes told old))
+    × HasContents (c.contents file) (λ bytes. IsUnrefused (IsListRefusal bytes) bytes
+    × HasContents (c.contents report) (λ told. (old : Report) × IsReportFor bytes told old))
 IsUnhindered (Generate n list) c = IsInRange n × ((bytes : List ℕ) → IsGenerated n bytes → IsListTaken bytes list)
 IsUnhindered (Upgrade file report) c =
-    IsTold (c.contents file) (λ bytes. IsUnrefused (IsListRefusal bytes) bytes
-    × IsTold (c.contents report) (λ told. (old : Report) × IsReportFor bytes told old × IsOld bytes old))
+    HasContents (c.contents file) (λ bytes. IsUnrefused (IsListRefusal bytes) bytes
+    × HasContents (c.contents report) (λ told. (old : Report) × IsReportFor bytes told old × IsOld bytes old))
 
 abbrev pub Done : (ℕ → List ℕ → Type 0) → ℕ → List ℕ → Type 0
 Done Is status text = Is status text × (status ≡ 0)
