@@ -16,7 +16,7 @@ use Rattle.report_read.specs.Judging.{AreRowsFine, AreRowsWrong, IsEndJudged, Is
 use Rattle.report_read.specs.Judging as judged
 use Rattle.report_read.proofs.Headers.{next_header}
 use Rattle.report_read.proofs.OneTelling.{wrong}
-use Rattle.wrong_lines.specs.Lines.{AreKnown, AreReduced, AreRight, AreRows, IsClosed, IsEnded, IsInOrder, IsRight, IsWrongEnd, IsWrongLine, IsWritten, may_follow, number_of, texts_of}
+use Rattle.wrong_lines.specs.Lines.{AreNamesKnown, AreReduced, AreRight, AreRows, IsClosedBefore, IsEnded, IsInOrder, IsRight, IsWrongEnd, IsWrongLine, IsWritten, may_follow, line_number, line_texts}
 use Rattle.wrong_lines.specs.Lines as over
 use Rattle.wrong_lines.specs.Texts.{IsWrongBehind, a_line, the_end}
 use Rattle.wrong_lines.proofs.Places.{Stands, allowed_there, before_names, before_place, before_version, judged_at, place_behind}
@@ -50,13 +50,13 @@ module _ (version : ℕ) (names : List Name) (past : List Line) (d : Draft) (s :
     may_there : may_follow version past line ≡ true → may_follow (before d line).version past line ≡ true
     may_there may = ap (λ (v : ℕ). may_follow v past line) version_there ∙ may
 
-    pub known : may_follow version past line ≡ true → AreKnownBy (before d line) line → AreKnown names past line
+    pub known : may_follow version past line ≡ true → AreKnownBy (before d line) line → AreNamesKnown names past line
     known may h =
-        subst (λ (ns : List Name). AreKnown ns past line) names_there (known_over (before d line) past s.rows line place_there (may_there may) h)
+        subst (λ (ns : List Name). AreNamesKnown ns past line) names_there (known_over (before d line) past s.rows line place_there (may_there may) h)
 
-    pub known_by : may_follow version past line ≡ true → AreKnown names past line → AreKnownBy (before d line) line
+    pub known_by : may_follow version past line ≡ true → AreNamesKnown names past line → AreKnownBy (before d line) line
     known_by may h =
-        known_there (before d line) past s.rows line place_there (may_there may) (subst (λ (ns : List Name). AreKnown ns past line) (sym names_there) h)
+        known_there (before d line) past s.rows line place_there (may_there may) (subst (λ (ns : List Name). AreNamesKnown ns past line) (sym names_there) h)
 
     pub ordered : may_follow version past line ≡ true → IsOrderedAt (before d line) (before d line).place line
         → IsInOrder version names past line
@@ -70,12 +70,12 @@ module _ (version : ℕ) (names : List Name) (past : List Line) (d : Draft) (s :
         subst (λ (p : Place). IsOrderedAt (before d line) p line) (sym place_there) (ordered_there (before d line) past s.rows line (may_there may)
         (subst (λ (ns : List Name). IsInOrder (before d line).version ns past line) (sym names_there) (subst (λ (v : ℕ). IsInOrder v names past line) (sym version_there) h)))
 
-    pub gone : (next : Draft) → may_follow version past line ≡ true → BecomesAt (number_of past) (before d line) (before d line).place line next
+    pub gone : (next : Draft) → may_follow version past line ≡ true → BecomesAt (line_number past) (before d line) (before d line).place line next
         → Goes names past line next.place
     gone next may h =
         subst (λ (ns : List Name). Goes ns past line next.place) names_there (goes (before d line) past s.rows line next
         (subst (λ (ns : List Name). AreRows ns past s.rows) (sym names_there) s.are) (may_there may)
-        (subst (λ (p : Place). BecomesAt (number_of past) (before d line) p line next) place_there h))
+        (subst (λ (p : Place). BecomesAt (line_number past) (before d line) p line next) place_there h))
 
   reduced : AreRowsFine d.place → AreReduced names past
   reduced fine = reduced_over names past s.rows s.are (subst AreRowsFine s.place_is fine)
@@ -83,11 +83,11 @@ module _ (version : ℕ) (names : List Name) (past : List Line) (d : Draft) (s :
   not_reduced : (n : ℕ) → AreRowsWrong d.place n → (n ≡ over.point_number past) × over.AreNotReduced names past
   not_reduced n wrong = wrong_over names past s.rows n s.are (subst (λ (p : Place). AreRowsWrong p n) s.place_is wrong)
 
-  closed_by : (line : Line) → IsPassed d line → IsClosed names past line
+  closed_by : (line : Line) → IsPassed d line → IsClosedBefore names past line
   closed_by line (inl e) = inl e
   closed_by line (inr fine) = inr (reduced fine)
 
-  pub right : (line : Line) (next : Draft) → IsLine line → IsNext (number_of past) d line next → IsRight version names past line
+  pub right : (line : Line) (next : Draft) → IsLine line → IsNext (line_number past) d line next → IsRight version names past line
   right line next fits n =
       let may : may_follow version past line ≡ true = sym (allowed_is line) ∙ n.allowed in record {
         can = fits;
@@ -97,11 +97,11 @@ module _ (version : ℕ) (names : List Name) (past : List Line) (d : Draft) (s :
         ordered = ordered line may n.ordered;
       }
 
-  pub stands_next : (line : Line) (next : Draft) → IsNext (number_of past) d line next → Stands version names (line ∷ past) next
+  pub stands_next : (line : Line) (next : Draft) → IsNext (line_number past) d line next → Stands version names (line ∷ past) next
   stands_next line next n =
       let may : may_follow version past line ≡ true = sym (allowed_is line) ∙ n.allowed in
       let g = gone line next may n.becomes in
-      let h = next_header (number_of past) d line next n in record {
+      let h = next_header (line_number past) d line next n in record {
         version_is = h.0 ∙ s.version_is;
         names_are = ap (λ (t : Tracked). t.names) h.1 ∙ s.names_are;
         rows = g.rows;
@@ -109,7 +109,7 @@ module _ (version : ℕ) (names : List Name) (past : List Line) (d : Draft) (s :
         place_is = g.place_is;
       }
 
-  pub wrong_line : (piece : List ℕ) (refusal : ReportRefusal) → IsRefusal (number_of past) d piece refusal
+  pub wrong_line : (piece : List ℕ) (refusal : ReportRefusal) → IsRefusal (line_number past) d piece refusal
       → IsWrongLine version names past piece refusal
   wrong_line piece refusal (judged.rows n other wrong e) =
       let w = not_reduced n wrong in over.not_reduced other w.1 (subst (λ (m : ℕ). refusal ≡ refusals.NotReduced m) w.0 e)
@@ -126,7 +126,7 @@ module _ (version : ℕ) (names : List Name) (past : List Line) (d : Draft) (s :
       let may : may_follow version past line ≡ true = sym (allowed_is line) ∙ allowed in
       over.not_ordered line (fits, is) (closed_by line passed) may (known line may knows) (λ o. disorder (ordered_by line may o)) e
 
-  pub wrong_end : (k : ℕ) (rest : List ℕ) (refusal : ReportRefusal) → k ≡ number_of past → IsEndJudged k d rest (Err refusal)
+  pub wrong_end : (k : ℕ) (rest : List ℕ) (refusal : ReportRefusal) → k ≡ line_number past → IsEndJudged k d rest (Err refusal)
       → IsWrongEnd names past rest refusal
   wrong_end k rest refusal at' (judged.rows n wrong e) =
       let w = not_reduced n wrong in
@@ -137,19 +137,19 @@ module _ (version : ℕ) (names : List Name) (past : List Line) (d : Draft) (s :
   wrong_end k rest refusal at' (judged.whole report ended empty is e) = absurd cc
 
 further : (line : Line) (past : List Line) (parts texts : List (List ℕ)) (piece next : List ℕ) → piece ≡ line_text line
-    → texts ≡ texts_of past ++ piece ∷ next ∷ parts → texts ≡ texts_of (line ∷ past) ++ next ∷ parts
+    → texts ≡ line_texts past ++ piece ∷ next ∷ parts → texts ≡ line_texts (line ∷ past) ++ next ∷ parts
 further line past parts texts piece next is e =
-    e ∙ ap (λ (p : List ℕ). texts_of past ++ p ∷ next ∷ parts) is ∙ sym (append_assoc (texts_of past) (line_text line ∷ []) (next ∷ parts))
+    e ∙ ap (λ (p : List ℕ). line_texts past ++ p ∷ next ∷ parts) is ∙ sym (append_assoc (line_texts past) (line_text line ∷ []) (next ∷ parts))
 
-one_more : (line : Line) (past : List Line) → number_of past + 1 ≡ number_of (line ∷ past)
+one_more : (line : Line) (past : List Line) → line_number past + 1 ≡ line_number (line ∷ past)
 one_more line past = omega arith
 
 -- behind lines that are right
 module _ (version : ℕ) (names : List Name) (text : List ℕ) (refusal : ReportRefusal) where
   pub wrong_behind : (parts : List (List ℕ)) (past : List Line) (d : Draft) → Stands version names past d → AreRight version names past
-      → parts_of 10 text ≡ texts_of past ++ parts → IsJudged parts (number_of past) d (Err refusal) → IsWrongBehind version names text refusal
+      → parts_of 10 text ≡ line_texts past ++ parts → IsJudged parts (line_number past) d (Err refusal) → IsWrongBehind version names text refusal
   wrong_behind [] past d s fine is j = absurd j
-  wrong_behind (rest ∷ []) past d s fine is j = the_end past rest fine is (wrong_end version names past d s (number_of past) rest refusal refl j)
+  wrong_behind (rest ∷ []) past d s fine is j = the_end past rest fine is (wrong_end version names past d s (line_number past) rest refusal refl j)
   wrong_behind (piece ∷ next ∷ parts) past d s fine is (judged.goes_on line m fits e n f) =
       wrong_behind (next ∷ parts) (line ∷ past) m (stands_next version names past d s line m n) (fine, right version names past d s line m fits n)
       (further line past parts (parts_of 10 text) piece next e is) (subst (λ (k : ℕ). IsJudged (next ∷ parts) k m (Err refusal)) (one_more line past) f)

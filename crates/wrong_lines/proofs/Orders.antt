@@ -7,7 +7,7 @@ use Rattle.report_read.specs.declared.draft.Draft.{Draft}
 use Rattle.report_read.specs.Drafts.{IsOrderedAt, entry_at}
 use Rattle.report_read.specs.Drafts.{AreKnown as AreKnownBy}
 use Rattle.report_read.specs.Judging.{AreRowsFine, AreRowsWrong}
-use Rattle.wrong_lines.specs.Lines.{AreKnown, AreNotReduced, AreReduced, AreRows, IsInOrder, may_follow, point_number, procedure_of}
+use Rattle.wrong_lines.specs.Lines.{AreNamesKnown, AreNotReduced, AreReduced, AreRows, IsInOrder, may_follow, point_number, last_procedure}
 use Rattle.wrong_lines.proofs.Places.{judged_at, place_behind}
 
 pub in_order : (b : Draft) (past : List Line) (rows : List (List ℕ)) (line : Line) → may_follow b.version past line ≡ true
@@ -55,21 +55,21 @@ ordered_there b (last ∷ past) rows line may h = tt
 
 -- where a relation may stand, the place is in the procedure of the line that came last
 pub entry_there : (version : ℕ) (past : List Line) (rows : List (List ℕ)) (line : Line) → is_relation line ≡ true
-    → may_follow version past line ≡ true → entry_at (place_behind past rows) ≡ procedure_of past
+    → may_follow version past line ≡ true → entry_at (place_behind past rows) ≡ last_procedure past
 entry_there version (At address ∷ past) rows (Rel terms c) e may = refl
 entry_there version (Rel last constant ∷ past) rows (Rel terms c) e may = refl
 entry_there version past rows (Rel terms c) e may = absurd cc
 entry_there version past rows line e may = absurd cc
 
 pub known_over : (b : Draft) (past : List Line) (rows : List (List ℕ)) (line : Line) → b.place ≡ judged_at past rows line
-    → may_follow b.version past line ≡ true → AreKnownBy b line → AreKnown b.tracked.names past line
+    → may_follow b.version past line ≡ true → AreKnownBy b line → AreNamesKnown b.tracked.names past line
 known_over b past rows (Rel terms c) e may h =
     subst (λ (p : ℕ). AreKnownTerms b.tracked.names p terms) (ap entry_at e ∙ entry_there b.version past rows (Rel terms c) refl may) h
 known_over b past rows (Cert name word) e may h = h
 known_over b past rows line e may h = tt
 
 pub known_there : (b : Draft) (past : List Line) (rows : List (List ℕ)) (line : Line) → b.place ≡ judged_at past rows line
-    → may_follow b.version past line ≡ true → AreKnown b.tracked.names past line → AreKnownBy b line
+    → may_follow b.version past line ≡ true → AreNamesKnown b.tracked.names past line → AreKnownBy b line
 known_there b past rows (Rel terms c) e may h =
     subst (λ (p : ℕ). AreKnownTerms b.tracked.names p terms) (sym (ap entry_at e ∙ entry_there b.version past rows (Rel terms c) refl may)) h
 known_there b past rows (Cert name word) e may h = h

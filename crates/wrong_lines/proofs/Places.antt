@@ -8,22 +8,22 @@ use Rattle.report_read.specs.declared.draft.Place.TheVariants as places
 use Rattle.report_read.specs.Drafts.{closed, closed_at, is_allowed_at}
 use Rattle.report_read.specs.Judging.{before}
 use Rattle.report_read.proofs.Headers.{closed_header}
-use Rattle.wrong_lines.specs.Lines.{AreRows, address_of, certs_of, may_follow, number_of, point_number, procedure_of}
+use Rattle.wrong_lines.specs.Lines.{AreRows, last_address, last_certs, may_follow, line_number, point_number, last_procedure}
 
 -- the place behind lines whose last relations tell these rows
 abbrev pub place_behind : List Line → List (List ℕ) → Place
 place_behind [] rows = places.Top
 place_behind (Proc entry ∷ past) rows = places.Procedure entry 0
-place_behind (Cert name word ∷ past) rows = places.Procedure (procedure_of past) (certs_of past + 1)
-place_behind (At address ∷ past) rows = places.Point (procedure_of past) address (number_of past)
-place_behind (NoRows ∷ past) rows = places.Told (procedure_of past) (address_of past)
-place_behind (Unreached ∷ past) rows = places.Told (procedure_of past) (address_of past)
-place_behind (Rel terms constant ∷ past) rows = places.Rows (procedure_of past) (address_of past) (point_number past) rows
+place_behind (Cert name word ∷ past) rows = places.Procedure (last_procedure past) (last_certs past + 1)
+place_behind (At address ∷ past) rows = places.Point (last_procedure past) address (line_number past)
+place_behind (NoRows ∷ past) rows = places.Told (last_procedure past) (last_address past)
+place_behind (Unreached ∷ past) rows = places.Told (last_procedure past) (last_address past)
+place_behind (Rel terms constant ∷ past) rows = places.Rows (last_procedure past) (last_address past) (point_number past) rows
 place_behind (End ∷ past) rows = places.End
 
 -- the same where the rows are told, if some stand last
 abbrev pub closed_behind : List Line → List (List ℕ) → Place
-closed_behind (Rel terms constant ∷ past) rows = places.Told (procedure_of past) (address_of past)
+closed_behind (Rel terms constant ∷ past) rows = places.Told (last_procedure past) (last_address past)
 closed_behind past rows = place_behind past rows
 
 -- the place by which a line is judged

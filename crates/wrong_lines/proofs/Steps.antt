@@ -5,7 +5,7 @@ use Rattle.report_lines.specs.Lines.{Line, Proc, Cert, At, NoRows, Unreached, Re
 use Rattle.report_read.specs.declared.draft.Draft.{Draft}
 use Rattle.report_read.specs.declared.draft.Place.{Place}
 use Rattle.report_read.specs.Drafts.{BecomesAt}
-use Rattle.wrong_lines.specs.Lines.{AreRows, may_follow, number_of}
+use Rattle.wrong_lines.specs.Lines.{AreRows, may_follow, line_number}
 use Rattle.wrong_lines.proofs.Places.{judged_at, place_behind}
 
 -- rows that stand last with what a line adds
@@ -18,7 +18,7 @@ abbrev place_of : Draft → Place
 place_of d = d.place
 
 pub goes : (b : Draft) (past : List Line) (rows : List (List ℕ)) (line : Line) (next : Draft) → AreRows b.tracked.names past rows
-    → may_follow b.version past line ≡ true → BecomesAt (number_of past) b (judged_at past rows line) line next
+    → may_follow b.version past line ≡ true → BecomesAt (line_number past) b (judged_at past rows line) line next
     → Goes b.tracked.names past line next.place
 goes b past rows (Proc entry) next are may h = record { rows = []; are = refl; place_is = ap place_of h }
 goes b (Proc last ∷ past) rows (Cert name word) next are may h = record { rows = []; are = refl; place_is = ap place_of h.4 }

@@ -14,13 +14,13 @@ use Rattle.report_lines.specs.Tracks.{AreListed, AreReadNames, IsNamed, track_te
 use Rattle.refusals.specs.declared.report.ReportRefusal.{ReportRefusal}
 use Rattle.refusals.specs.declared.report.ReportRefusal.TheVariants as refusals
 use Rattle.report_read.specs.Telling.{IsFirstLine, IsTextJudged}
-use Rattle.wrong_lines.specs.Lines.{AreRight, IsWrongEnd, IsWrongLine, texts_of}
+use Rattle.wrong_lines.specs.Lines.{AreRight, IsWrongEnd, IsWrongLine, line_texts}
 
 pub data IsWrongBehind (version : ℕ) (names : List Name) (text : List ℕ) (refusal : ReportRefusal) : Type 0 where
   a_line : (past : List Line) (piece more : List ℕ) (parts : List (List ℕ)) → AreRight version names past
-      → parts_of 10 text ≡ texts_of past ++ piece ∷ more ∷ parts → IsWrongLine version names past piece refusal
+      → parts_of 10 text ≡ line_texts past ++ piece ∷ more ∷ parts → IsWrongLine version names past piece refusal
       → IsWrongBehind version names text refusal
-  the_end : (past : List Line) (rest : List ℕ) → AreRight version names past → parts_of 10 text ≡ texts_of past ++ rest ∷ []
+  the_end : (past : List Line) (rest : List ℕ) → AreRight version names past → parts_of 10 text ≡ line_texts past ++ rest ∷ []
       → IsWrongEnd names past rest refusal → IsWrongBehind version names text refusal
 
 pub data IsWrongTrack (version : ℕ) (text : List ℕ) (refusal : ReportRefusal) : Type 0 where
