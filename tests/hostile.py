@@ -18,7 +18,7 @@ import tempfile
 import threading
 import time
 
-from made_code import EBREAK, ZERO, elf, jal
+from made_code import EBREAK, ENTRY, ZERO, elf, jal
 from worked import (
     COUNTING, COUNTING_REPORT, FIVE, FIVE_REPORT, FRAME, FRAME_OLD, ORDERS, QUARTER, RECURSION, RECURSION_LIST,
     RECURSION_REPORT, USAGE, number, reads_file, reads_report, with_header, without_certificates, words,
@@ -441,7 +441,7 @@ def closed_outputs(place):
 
 
 def gone_readers(place):
-    """Whoever reads a pipe has gone: the write fails, or the signal for it ends the program."""
+    """Whoever reads a pipe has gone: the write fails, whether the caller ignores the signal for it or not."""
     for order in ORDERS:
         place.put_report(order)
         for ignored in [True, False]:
@@ -453,9 +453,7 @@ def gone_readers(place):
             place.calls += 1
             call = subprocess.run([place.program] + words(order), cwd=place.folder, stdout=writing, check=False, **options)
             os.close(writing)
-            wanted = [4] if ignored else [4, -signal.SIGPIPE]
-            if call.returncode not in wanted:
-                place.faults.append(f"{order}: {call.returncode}, none of {wanted}")
+            place.wants(order, 4, call.returncode)
 
 
 # Signals.
@@ -478,15 +476,21 @@ def interrupted_runs(place):
         place.wants(f"{number_of.name}", (-number_of, b""), (run.returncode, text))
 
 
+def straight(points):
+    """A file with so many points, in a row, and its report and list."""
+    addresses = [ENTRY + 4 * i for i in range(points)]
+    report = [f"at {a:#x}\nnone\n" for a in addresses]
+    lines = [f"{a:#x} 00050513 addi a0,a0,0\n" for a in addresses[:-1]] + [f"{addresses[-1]:#x} 00100073 ebreak\n"]
+    texts = ["affine-report 2\ntrack a0\n" + f"proc {ENTRY:#x}\n" + "".join(report) + "end\n"]
+    texts += ["affine-list 1\n" + f"proc {ENTRY:#x}\n" + "".join(lines) + "end\n"]
+    return elf([0x00050513] * (points - 1) + [EBREAK]), *texts
+
+
 def interrupted_texts(place):
     """A signal that comes while a text is written leaves a front of it, which doesn't end as a whole text does, and which no
     order takes for one."""
-    points = 4096
-    place.put("file.elf", elf([0x00050513] * (points - 1) + [EBREAK]))
-    lines = ["affine-report 2", "track a0", "proc 0x10078"]
-    for i in range(points):
-        lines += [f"at {0x10078 + 4 * i:#x}", "none"]
-    text = "".join(line + "\n" for line in lines + ["end"])
+    file, text, _ = straight(16384)
+    place.put("file.elf", file)
     arguments = [place.program, "analyse", "file.elf", "--track", "a0"]
     run = subprocess.Popen(arguments, cwd=place.folder, stdout=subprocess.PIPE)
     first = os.read(run.stdout.fileno(), 1000)
@@ -519,25 +523,16 @@ def suspended_runs(place):
 
 
 def little_memory(place):
-    """Where the system gives little memory an order says so, with its line and its status, or does what it does."""
-    for order in ORDERS:
-        place.put_report(order)
+    """Where the system gives little memory an order says so, with its line and its status, or does all that it does."""
+    file, report, listed = straight(16384)
+    place.put("file.elf", file)
+    for arguments, text in [(["analyse", "file.elf", "--track", "a0"], report), (["list", "file.elf"], listed)]:
         told = set()
-        for megabytes in range(2, 40, 2):
-            most = megabytes * 2**20
-
-            def limit():
-                resource.setrlimit(resource.RLIMIT_AS, (most, most))
-
-            place.calls += 1
-            call = subprocess.run(
-                [place.program] + words(order), cwd=place.folder, stdout=subprocess.PIPE, stderr=subprocess.PIPE, preexec_fn=limit, check=False
-            )
-            if call.returncode == 127 or call.returncode < 0 and call.stdout == b"":
-                continue  # not begun: the loader found no memory
-            told.add((call.returncode, call.stdout.decode()))
-        if not told <= {(5, "out of memory\n"), whole(order)} or whole(order) not in told:
-            place.faults.append(f"{order}: {told!r}")
+        for megabytes in range(4, 80, 4):
+            limit = (megabytes * 2**20,) * 2
+            told.add(place.call(arguments, preexec_fn=lambda: resource.setrlimit(resource.RLIMIT_AS, limit)))
+        if told != {(5, "out of memory\n"), (0, text)}:
+            place.faults.append(f"{arguments[0]}: {[(status, said[:40]) for status, said in told]}")
 
 
 TESTS = [
