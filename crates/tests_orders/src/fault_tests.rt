@@ -95,6 +95,7 @@ const CASES: [Case; 8] = [
 ];
 
 /// What a call of an order answered, with how many reads and puts it made.
+#[derive(Drop)]
 struct Ended {
     status: u8,
     written: Vec<u8>,
@@ -103,7 +104,7 @@ struct Ended {
 }
 
 /// The order in pieces, whose read and whose put of these numbers fail; none has the number 0.
-fn ended(alloc: Global, case: &Case, piece: usize, read: u64, put: u64) -> Result<Ended, Fail>
+fn answer_of(alloc: Global, case: &Case, piece: usize, read: u64, put: u64) -> Result<Ended, Fail>
     requires { 1 ≤ piece }
 {
     let words = words_of(alloc, case.order)?;
@@ -127,18 +128,18 @@ fn ended(alloc: Global, case: &Case, piece: usize, read: u64, put: u64) -> Resul
 fn faults_are_told(alloc: Global, case: &Case, piece: usize) -> Result<bool, Fail>
     requires { 1 ≤ piece }
 {
-    let sound = ended(alloc, case, piece, 0, 0)?;
+    let sound = answer_of(alloc, case, piece, 0, 0)?;
     if sound.status != case.status || sound.written.as_slice() != case.text.as_bytes() {
         return Ok(false);
     }
     for k in 1..=sound.reads {
-        let failed = ended(alloc, case, piece, k, 0)?;
+        let failed = answer_of(alloc, case, piece, k, 0)?;
         if failed.status != 3 || failed.written.as_slice() != b"read fault\n".as_slice() {
             return Ok(false);
         }
     }
     for k in 1..=sound.puts {
-        let failed = ended(alloc, case, piece, 0, k)?;
+        let failed = answer_of(alloc, case, piece, 0, k)?;
         if failed.status != 4 || failed.written.len() >= case.text.len() {
             return Ok(false);
         }
