@@ -1,4 +1,4 @@
-# Short ways to try, to build and to test the analyser: `make` lists them.
+# Short ways to try, to build, to test and to install the analyser: `make` lists them.
 PROGRAM = crates/analyser_main/out/analyser_main
 EXAMPLE = examples/saved_registers.elf
 SLOTS = 0x10010:-8,0x10010:-16,0x10044:-8
@@ -12,67 +12,75 @@ STEPS = 1000
 REGS =
 export REPORT STEPS REGS
 
-.PHONY: help demo analyse cert list run upgrade build test large bench edits
+# The programs that are installed: each name, and the crate that it is.
+INSTALLED = affine-relations=analyser_main
+PREFIX = /usr/local
+DESTDIR =
+
+.PHONY: help demo analyse cert list run upgrade build install test large hostile faults readme bench edits
 
 help:
-	@echo 'make demo                       the report of $(EXAMPLE)    1 to 2 minutes, mostly compiling'
-	@echo 'make analyse FILE=F TRACK=LIST  the report of F for the names of LIST          1 to 2 minutes, mostly compiling'
-	@echo 'make cert FILE=F TRACK=LIST     which registers its procedures give back        1 to 2 minutes, mostly compiling'
-	@echo 'make list FILE=F                the code of F that can be reached              1 to 2 minutes, mostly compiling'
-	@echo 'make run FILE=F REPORT=R STEPS=N REGS=..  a run of F against the report R, with these registers      1 to 2 minutes, mostly compiling'
-	@echo 'make upgrade FILE=F REPORT=R    the report R with certificates                 1 to 2 minutes, mostly compiling'
+	@echo 'make demo                       what the program tells of $(EXAMPLE)'
+	@echo 'make analyse FILE=F TRACK=LIST  the report of F for the names of LIST'
+	@echo 'make cert FILE=F TRACK=LIST     which registers its procedures give back'
+	@echo 'make list FILE=F                the code of F that can be reached'
+	@echo 'make run FILE=F REPORT=R STEPS=N REGS=..  a run of F against the report R, with these registers'
+	@echo 'make upgrade FILE=F REPORT=R    the report R with certificates'
+	@echo
+	@echo 'These run the program that make build made, at once, where no source is newer than it; else each compiles the'
+	@echo 'sources anew, without proofs: 67 to 120 s where it was measured, on four processors of 2.1 GHz.'
+	@echo
 	@echo 'make build                      proves and builds the program                  half an hour or more where nothing is kept'
-	@echo 'make bench                      times of the built program on files of growing size   some seconds'
-	@echo 'make large                      the built program on inputs near the limits, compared whole   half a minute'
+	@echo 'make install PREFIX=P           the proved program as P/bin/affine-relations, and its manual page'
 	@echo 'make test                       the whole test, rt ci                          an hour or more where nothing is kept'
+	@echo 'make large                      the built program on inputs near the limits    half a minute'
+	@echo 'make hostile                    the built program on damaged and odd files and outputs     half a minute'
+	@echo 'make faults                     each allocation, read and write of the built program fails in turn   half a minute'
+	@echo 'make readme                     each command of README.md, with what it shows'
+	@echo 'make bench                      times of the built program on files of growing size   some seconds'
 	@echo 'make edits                      further wrong bodies, each of which the proof must refuse     half an hour or more'
 	@echo
-	@echo 'demo, analyse, cert, list, run and upgrade build anew and prove nothing; rt ci proves the same sources.'
-	@echo 'make build leaves the program at $(PROGRAM); run it as'
+	@echo 'The built program lies at $(PROGRAM); run it as'
 	@echo '  $(PROGRAM) analyse FILE --track LIST'
 
-# What the program, built without proofs, says to an order about `file.elf`, which is FILE, and `file.report`, which is REPORT.
-# Its status is told and is no fault of make; a build that fails is one.
-define unproved
-@case $$FILE in /*) ;; *) FILE=$$PWD/$$FILE ;; esac; \
-case $$REPORT in /*) ;; *) REPORT=$$PWD/$$REPORT ;; esac; \
-if test -f "$$FILE"; then set -- --data "file.elf=$$FILE"; else set --; fi; \
-if test -f "$$REPORT"; then set -- "$$@" --data "file.report=$$REPORT"; fi; \
-log=$$(mktemp) && trap 'rm -f "$$log"' EXIT && cd crates/analyser_main && \
-{ rt try "$$@" -- $(1) 2>"$$log"; status=$$?; } && \
-if grep -q '^run=ended' "$$log"; \
-then echo "make: the program ended with status $$status. This build is unproved; rt ci proves the same sources." >&2; \
-else cat "$$log" >&2; exit 1; fi
-endef
-
-demo: analyse
+demo:
+	@tools/demo
 
 analyse:
-	$(call unproved,analyse file.elf --track "$$TRACK")
+	@tools/order analyse --track "$$TRACK"
 
 cert:
-	$(call unproved,cert file.elf --track "$$TRACK")
+	@tools/order cert --track "$$TRACK"
 
 list:
-	$(call unproved,list file.elf)
+	@tools/order list
 
 run:
-	$(call unproved,run file.elf file.report --steps "$$STEPS" $${REGS:+--regs "$$REGS"})
+	@tools/order run --steps "$$STEPS" $${REGS:+--regs "$$REGS"}
 
 upgrade:
-	$(call unproved,upgrade file.elf file.report)
+	@tools/order upgrade
 
 build:
 	@cd crates/analyser_main && rt run -- list ../../examples/one_register.elf
 	@echo 'make: built, proved: $(PROGRAM)'
 
-large:
-	@test -x $(PROGRAM) || { echo 'make: make build comes first' >&2; exit 1; }
-	@python3 tests/large.py $(PROGRAM)
+install:
+	@PREFIX='$(DESTDIR)$(PREFIX)' tools/install $(INSTALLED)
+
+large hostile faults bench: is_built
+large hostile faults:
+	@python3 tests/$@.py $(PROGRAM)
 
 bench:
-	@test -x $(PROGRAM) || { echo 'make: make build comes first' >&2; exit 1; }
 	@python3 bench/bench.py $(PROGRAM)
+
+.PHONY: is_built
+is_built:
+	@test -x $(PROGRAM) || { echo 'make: make build comes first' >&2; exit 1; }
+
+readme:
+	@python3 tests/readme.py README.md
 
 test:
 	rt ci

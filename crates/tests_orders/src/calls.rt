@@ -52,16 +52,29 @@ pub(crate) fn one_file(
     })
 }
 
+/// The file `f` and the report `r`, read in pieces, whose call `fails` fails.
+pub(crate) fn files_in_pieces(
+    alloc: Global,
+    bytes: Vec<u8>,
+    report: Vec<u8>,
+    piece: usize,
+    fails: u64,
+) -> Result<MemFiles, AllocError>
+    requires { 1 ≤ piece }
+{
+    let mut files = one_file(alloc, bytes, piece, fails)?;
+    let report = file(alloc, "r", report)?;
+    files.files.push(report)?;
+    Ok(files)
+}
+
 /// The file `f` and the report `r`.
 pub(crate) fn two_files(
     alloc: Global,
     bytes: Vec<u8>,
     report: Vec<u8>,
 ) -> Result<MemFiles, AllocError> {
-    let mut files = one_file(alloc, bytes, 4096, 0)?;
-    let report = file(alloc, "r", report)?;
-    files.files.push(report)?;
-    Ok(files)
+    files_in_pieces(alloc, bytes, report, 4096, 0)
 }
 
 /// A sink that takes its bytes in pieces.

@@ -1,22 +1,22 @@
 //! Runs of small files under the four watches, and the step at which each first finds something: runs that keep the
-//! discipline to their ends, and runs that keep it exactly up to a step. And how many records a watch behind the four sees.
+//! discipline to their ends, and runs that keep it exactly up to a step. And a watch of another kind behind the four: how
+//! many records it sees, and that it changes nothing of what the four find.
 
 ghost use Rattle.std.specs.Prelude.{◌≤◌};
 ghost use Rattle.flow_points.specs.PointLists.{ArePointsOf};
 ghost use Rattle.frame_offsets.specs.Frames.{AreOffsetsOf};
 
-use affine_lift::{TrackRefusal, read_tracked};
 use elf_image::{Image, read_image};
 use elf_write::file_of_words;
 use flow_points::{Points, recover};
 use frame_offsets::{Offsets, offsets};
+use report_read::read_report;
 use report_text::Report;
 use run_watch::{
-    CodeWatch, Found, RelationWatch, ReturnWatch, RunStop, RunVerdict, StoreWatch, Watch, WatchCtx,
-    check_run,
+    CodeWatch, Found, RelationWatch, ReturnWatch, RunRefusal, RunStop, RunVerdict, StoreWatch,
+    Watch, WatchCtx, check_run,
 };
 use rv_step::StepRec;
-use sqlite_items::Items;
 use std::alloc::{AllocError, Global};
 
 /// Kind 9: counts the records that it sees, and keeps how many live slots there were at most.
@@ -62,6 +62,17 @@ enum Watches {
     Five,
 }
 
+/// What a run is given: a report's text, sp, a0 and a1, at most how many steps, and its watches.
+#[derive(Clone, Copy)]
+struct Given<'a> {
+    report: &'a str,
+    sp: u64,
+    a0: u64,
+    a1: u64,
+    steps: u64,
+    which: Watches,
+}
+
 /// A run of at most so many steps with sp at 0x20000 and a0 at 3, under these watches, against a report that tells of
 /// no point.
 fn run_under(
@@ -73,122 +84,124 @@ fn run_under(
 ) -> Option<RunVerdict>
     requires steps { steps ≤ 1000000000 }
 {
-    match file_of_words(alloc, words) {
-        Ok(file) => run_file(alloc, &file, list, steps, which),
-        Err(_) => None,
-    }
-}
-
-fn run_file(
-    alloc: Global,
-    file: &[u8],
-    list: &str,
-    steps: u64,
-    which: Watches,
-) -> Option<RunVerdict>
-    requires steps { steps ≤ 1000000000 }
-{
-    match read_image(alloc, file) {
-        Ok(image) => run_image(alloc, &image, list, steps, which),
-        Err(_) => None,
-    }
-}
-
-fn run_image(
-    alloc: Global,
-    image: &Image,
-    list: &str,
-    steps: u64,
-    which: Watches,
-) -> Option<RunVerdict>
-    requires steps { steps ≤ 1000000000 }
-{
-    match recover(alloc, image) {
-        Ok(points) => run_points(alloc, image, &points, list, steps, which),
-        Err(_) => None,
-    }
-}
-
-fn run_points(
-    alloc: Global,
-    image: &Image,
-    points: &Points,
-    list: &str,
-    steps: u64,
-    which: Watches,
-) -> Option<RunVerdict>
-    requires steps { steps ≤ 1000000000 }
-    requires points { ArePointsOf image.now points.now }
-{
-    match report_for(alloc, image, points, list) {
-        Ok(report) => run_report(alloc, image, points, &report, steps, which),
-        Err(_) => None,
-    }
-}
-
-/// A report for these names that tells of no point.
-fn report_for(
-    alloc: Global,
-    image: &Image,
-    points: &Points,
-    list: &str,
-) -> Result<Report, TrackRefusal> {
-    let report = Report {
-        version: 1,
-        tracked: read_tracked(alloc, list, image, points)?,
-        certs: Items::new(alloc),
-        points: Items::new(alloc),
-    };
-    Ok(report)
-}
-
-fn run_report(
-    alloc: Global,
-    image: &Image,
-    points: &Points,
-    report: &Report,
-    steps: u64,
-    which: Watches,
-) -> Option<RunVerdict>
-    requires steps { steps ≤ 1000000000 }
-    requires points { ArePointsOf image.now points.now }
-{
-    match offsets(alloc, points) {
-        Ok(offsets) => {
-            match watched(alloc, image, points, &offsets, report, steps, which) {
-                Ok(verdict) => verdict,
-                Err(_) => None,
-            }
+    match format!(in alloc; "affine-report 1\ntrack {list}\nend\n") {
+        Ok(report) => {
+            let given = Given {
+                report: report.as_str(),
+                sp: 0x2_0000,
+                a0: 3,
+                a1: 0,
+                steps,
+                which,
+            };
+            run_given(alloc, words, &given)
         }
         Err(_) => None,
     }
 }
 
-/// Memory may be wanting for the watches; None where the run is refused.
+/// A run with what is given, where it isn't refused.
+fn run_given(alloc: Global, words: &[u32], given: &Given<'_>) -> Option<RunVerdict>
+    requires steps { given.now.steps ≤ 1000000000 }
+{
+    match answer(alloc, words, given) {
+        Some(Ok(verdict)) => Some(verdict),
+        _ => None,
+    }
+}
+
+/// What the check of a run with what is given answers.
+fn answer(alloc: Global, words: &[u32], given: &Given<'_>) -> Option<Result<RunVerdict, RunRefusal>>
+    requires steps { given.now.steps ≤ 1000000000 }
+{
+    match file_of_words(alloc, words) {
+        Ok(file) => over_file(alloc, &file, given),
+        Err(_) => None,
+    }
+}
+
+fn over_file(
+    alloc: Global,
+    file: &[u8],
+    given: &Given<'_>,
+) -> Option<Result<RunVerdict, RunRefusal>>
+    requires steps { given.now.steps ≤ 1000000000 }
+{
+    match read_image(alloc, file) {
+        Ok(image) => over_image(alloc, &image, given),
+        Err(_) => None,
+    }
+}
+
+fn over_image(
+    alloc: Global,
+    image: &Image,
+    given: &Given<'_>,
+) -> Option<Result<RunVerdict, RunRefusal>>
+    requires steps { given.now.steps ≤ 1000000000 }
+{
+    match recover(alloc, image) {
+        Ok(points) => over_points(alloc, image, &points, given),
+        Err(_) => None,
+    }
+}
+
+fn over_points(
+    alloc: Global,
+    image: &Image,
+    points: &Points,
+    given: &Given<'_>,
+) -> Option<Result<RunVerdict, RunRefusal>>
+    requires steps { given.now.steps ≤ 1000000000 }
+    requires points { ArePointsOf image.now points.now }
+{
+    match read_report(alloc, given.report.as_bytes()) {
+        Ok(report) => over_report(alloc, image, points, &report, given),
+        Err(_) => None,
+    }
+}
+
+fn over_report(
+    alloc: Global,
+    image: &Image,
+    points: &Points,
+    report: &Report,
+    given: &Given<'_>,
+) -> Option<Result<RunVerdict, RunRefusal>>
+    requires steps { given.now.steps ≤ 1000000000 }
+    requires points { ArePointsOf image.now points.now }
+{
+    match offsets(alloc, points) {
+        Ok(offsets) => watched(alloc, image, points, &offsets, report, given).ok(),
+        Err(_) => None,
+    }
+}
+
+/// Memory may be wanting for the watches. They are given away: whatever is answered, none of them is here afterwards.
 fn watched(
     alloc: Global,
     image: &Image,
     points: &Points,
     offsets: &Offsets,
     report: &Report,
-    steps: u64,
-    which: Watches,
-) -> Result<Option<RunVerdict>, AllocError>
-    requires steps { steps ≤ 1000000000 }
+    given: &Given<'_>,
+) -> Result<Result<RunVerdict, RunRefusal>, AllocError>
+    requires steps { given.now.steps ≤ 1000000000 }
     requires points { ArePointsOf image.now points.now }
     requires offsets { AreOffsetsOf points.now offsets.now }
 {
     let mut regs = [0; 32];
-    regs[2] = 0x2_0000;
-    regs[10] = 3;
+    regs[2] = given.sp;
+    regs[10] = given.a0;
+    regs[11] = given.a1;
     let mut watches: Vec<Box<dyn Watch>> = Vec::new(alloc);
-    if which != Watches::None {
+    if given.which != Watches::None {
         watches.push(Box::new(alloc, RelationWatch::new())?)?;
         watches.push(Box::new(alloc, StoreWatch::new())?)?;
         watches.push(Box::new(alloc, ReturnWatch::new())?)?;
         watches.push(Box::new(alloc, CodeWatch::new())?)?;
     }
-    if which == Watches::Five {
+    if given.which == Watches::Five {
         let watch = CountWatch {
             alloc,
             count: 0,
@@ -196,10 +209,16 @@ fn watched(
         };
         watches.push(Box::new(alloc, watch)?)?;
     }
-    match check_run(alloc, image, points, offsets, report, regs, steps, watches) {
-        Ok(verdict) => Ok(Some(verdict)),
-        Err(_) => Ok(None),
-    }
+    Ok(check_run(
+        alloc,
+        image,
+        points,
+        offsets,
+        report,
+        regs,
+        given.steps,
+        watches,
+    ))
 }
 
 /// At which record a watch found something.
@@ -429,4 +448,117 @@ fn a_record_of_no_step(rt: HostRuntime) {
 fn no_watches(rt: HostRuntime) {
     let words = [0x00150513, 0x00100073];
     assert!(rt; is_unseen(rt.alloc(), &words, 1, RunStop::Break(0x1_007c)));
+}
+
+/// addi a0,zero,0; addi a0,a0,8; bne a0,a1,-4; ebreak
+const COUNTING: [u32; 4] = [0x00000513, 0x00850513, 0xfeb51ee3, 0x00100073];
+
+const COUNTING_REPORT: &str =
+    "affine-report 2\ntrack a0\nproc 0x10078\nat 0x10078\nnone\nat 0x1007c\nrel 2305843009213693952*a0\nat 0x10080\nrel 2305843009213693952*a0\nat 0x10084\nrel 2305843009213693952*a0\nend\n";
+
+const WRONG_REPORT: &str =
+    "affine-report 1\ntrack a0\nproc 0x10078\nat 0x10078\nnone\nat 0x1007c\nrel 1*a0\nend\n";
+
+/// jal ra,8; ebreak; addi sp,sp,-16; sd ra,8(sp); sd zero,0(a0); ld ra,8(sp); addi sp,sp,16; ret
+const STRAY_STORE: [u32; 8] = [
+    0x008000ef, 0x00100073, 0xff010113, 0x00113423, 0x00053023, 0x00813083, 0x01010113, 0x00008067,
+];
+
+const STRAY_REPORT: &str =
+    "affine-report 1\ntrack sp,ra,0x10080:-8\nproc 0x10078\nat 0x10078\nnone\nat 0x1007c\nrel 1*ra -65660\nproc 0x10080\nat 0x10080\nrel 1*ra -65660\nat 0x10084\nrel 1*ra -65660\nat 0x10088\nrel 1*ra -65660\nrel 1*0x10080:-8 -65660\nat 0x1008c\nrel 1*ra -65660\nrel 1*0x10080:-8 -65660\nat 0x10090\nrel 1*ra -65660\nrel 1*0x10080:-8 -65660\nat 0x10094\nrel 1*ra -65660\nrel 1*0x10080:-8 -65660\nend\n";
+
+/// A run, what it is given, its steps and its stop, and the indices that the five watches tell.
+struct Seen {
+    words: &'static [u32],
+    given: Given<'static>,
+    steps: u64,
+    stop: RunStop,
+    indices: [Option<u64>; 5],
+}
+
+const COUNTED: Given<'static> = Given {
+    report: COUNTING_REPORT,
+    sp: 0,
+    a0: 0,
+    a1: 24,
+    steps: 100,
+    which: Watches::Five,
+};
+
+const SEEN: [Seen; 4] = [
+    Seen {
+        words: &COUNTING,
+        given: COUNTED,
+        steps: 7,
+        stop: RunStop::Break(0x1_0084),
+        indices: [None, None, None, None, Some(8)],
+    },
+    Seen {
+        words: &COUNTING,
+        given: Given {
+            report: WRONG_REPORT,
+            ..COUNTED
+        },
+        steps: 7,
+        stop: RunStop::Break(0x1_0084),
+        indices: [Some(3), None, None, None, Some(8)],
+    },
+    Seen {
+        words: &COUNTING,
+        given: Given {
+            steps: 0,
+            ..COUNTED
+        },
+        steps: 0,
+        stop: RunStop::Budget,
+        indices: [None, None, None, None, Some(1)],
+    },
+    Seen {
+        words: &STRAY_STORE,
+        given: Given {
+            report: STRAY_REPORT,
+            sp: 0x2_0000,
+            a0: 0x1_fff8,
+            ..COUNTED
+        },
+        steps: 7,
+        stop: RunStop::Left(0),
+        indices: [Some(4), Some(3), Some(6), None, Some(7)],
+    },
+];
+
+fn all_are_seen(alloc: Global, cases: &[Seen]) -> bool {
+    for case in cases.iter() {
+        if !is_seen_so(alloc, case) {
+            return false;
+        }
+    }
+    true
+}
+
+fn is_seen_so(alloc: Global, case: &Seen) -> bool {
+    if case.given.steps > 1000 {
+        return false;
+    }
+    match run_given(alloc, case.words, &case.given) {
+        Some(verdict) => tells(&verdict, case.steps, case.stop, &case.indices),
+        None => false,
+    }
+}
+
+/// The watch behind the four sees each record, and they find what they find without it.
+#[test]
+fn a_watch_of_another_kind(rt: HostRuntime) {
+    assert!(rt; all_are_seen(rt.alloc(), &SEEN));
+}
+
+/// A report with a point that the file doesn't have is refused, and the watches are gone with it.
+#[test]
+fn watches_of_a_refused_run(rt: HostRuntime) {
+    let given = Given {
+        report: "affine-report 1\ntrack a0\nproc 0x10078\nat 0x10090\nnone\nend\n",
+        ..COUNTED
+    };
+    let refusal = answer(rt.alloc(), &COUNTING, &given);
+    assert!(rt; matches!(refusal, Some(Err(RunRefusal::NotAPoint(0x1_0090)))));
 }

@@ -1,9 +1,12 @@
 //! Single steps: each instruction on a plain case, and the borders of divisions, shifts and signs.
 
 use elf_image::read_image;
-use elf_write::{file_of_code, file_of_words};
+use elf_write::{
+    FileHeader, SegmentHeader, file_of_code, file_of_words, push_file_header, push_program_header,
+    push_words,
+};
 use rv_step::{Machine, StepRec, Stop, StoreRec};
-use std::alloc::Global;
+use std::alloc::{AllocError, Global};
 
 const EBREAK: u32 = 0x00100073;
 
@@ -361,4 +364,49 @@ fn runs_compressed(alloc: Global) -> bool {
 #[test]
 fn both_lengths(rt: HostRuntime) {
     assert!(rt; runs_compressed(rt.alloc()));
+}
+
+/// addi a0,zero,5; ebreak, in a segment that is 2^63 bytes long in memory.
+fn half_of_memory(alloc: Global) -> Result<Vec<u8>, AllocError> {
+    let mut file = Vec::new(alloc);
+    let header = FileHeader {
+        entry: 0x1_0078,
+        flags: 0,
+        segments: 1,
+        sections_at: 0,
+        sections: 0,
+        names_section: 0,
+    };
+    push_file_header(&mut file, &header)?;
+    let segment = SegmentHeader {
+        offset: 0,
+        address: 0x1_0000,
+        stored: 128,
+        size: 1 << 63,
+        flags: 5,
+    };
+    push_program_header(&mut file, &segment)?;
+    push_words(&mut file, &[0x00500513, EBREAK])?;
+    Ok(file)
+}
+
+fn half_of_memory_machine(alloc: Global) -> Option<Machine> {
+    match half_of_memory(alloc) {
+        Ok(file) => start(alloc, &file, [0; 32]),
+        Err(_) => None,
+    }
+}
+
+fn runs_in_half_of_memory(alloc: Global) -> bool {
+    match half_of_memory_machine(alloc) {
+        Some(mut machine) => sets_a0(&mut machine, 5)
+            && machine.step() == Err(Stop::Break(0x1_007c)),
+        None => false,
+    }
+}
+
+/// No memory is taken for what the file doesn't store: so much couldn't be had.
+#[test]
+fn a_segment_of_half_of_memory(rt: HostRuntime) {
+    assert!(rt; runs_in_half_of_memory(rt.alloc()));
 }
