@@ -5,3 +5,4 @@ pub use Rattle.affine_lift.proofs.PositionBits.{has_positions}
 pub use Rattle.affine_lift.proofs.Procedures.{code_there, entry_there, number_is, owner_there}
 pub use Rattle.affine_lift.proofs.Owners.{number_small, proc_at}
 pub use Rattle.affine_lift.proofs.EdgesFormed.{slots_at}
+pub use Rattle.affine_lift.proofs.VisibleSeen.{visible_seen}

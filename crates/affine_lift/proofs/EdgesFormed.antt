@@ -17,9 +17,10 @@ use Rattle.flow_points.proofs.Lists.{Contains-map, all_one, all_two, alone, firs
 use Rattle.flow_points.proofs.PointLaws.{goes_on}
 use Rattle.report_text.specs.declared.names.Name.{Name}
 use Rattle.report_text.specs.declared.names.Name.TheVariants.{Register, Slot}
+use Rattle.affine_lift.specs.declared.width.Width.{Width}
 use Rattle.affine_lift.specs.FrameSlots.{access_of}
-use Rattle.affine_lift.specs.Effects.{effect_of}
-use Rattle.affine_lift.specs.Lifting.{IsLifted, edges_by, edges_of, exit_of as exit_node, is_slot_of, is_tracked_register, node_of, number_of, positions_where}
+use Rattle.affine_lift.specs.Effects.{effect_by}
+use Rattle.affine_lift.specs.Lifting.{IsLiftedBy, edges_by, edges_of, exit_of as exit_node, is_slot_of, is_tracked_register, node_of, number_of, positions_where}
 use Rattle.affine_lift.proofs.EffectsSeen.{Sees, effect_seen}
 use Rattle.affine_lift.proofs.PositionBits.{has_name}
 use Rattle.affine_lift.proofs.Owners.{exit_owner, number_small, point_below, point_owner, proc_at, procs_long}
@@ -30,8 +31,8 @@ all_flat_map P f [] all = All-nil P
 all_flat_map P f (x ∷ xs) all =
     All-append P (f x) (flat_map f xs) (all 0 x (omega arith)) (all_flat_map P f xs (λ k d below. all (suc k) d (omega arith)))
 
-module _ (points : FlowPoints) (names : List Name) (program : Program) (has_code : HasCode points)
-    (is : IsLifted points names program) where
+module _ {w : Width} (points : FlowPoints) (names : List Name) (program : Program) (has_code : HasCode points)
+    (is : IsLiftedBy w points names program) where
   pub slots_at : (a : ℕ) → Contains points.procedures a → slots_of program (number_of points a) ≡ positions_where (is_slot_of a) names
   slots_at a there = proc_at points names program has_code is (λ proc. proc.slots) a there
 
@@ -67,9 +68,9 @@ module _ (points : FlowPoints) (names : List Name) (program : Program) (has_code
           kind = subst (λ (p : ℕ). IsKindIn program p kind) (sym from) within;
         }
 
-    assigns_seen : All (IsAssignIn (visible_in program (number_of points c.point.proc_entry))) (effect_of names c (is.offset c))
+    assigns_seen : All (IsAssignIn (visible_in program (number_of points c.point.proc_entry))) (effect_by w names c (is.offset c))
     assigns_seen =
-        effect_seen (visible_in program (number_of points c.point.proc_entry)) c.point.proc_entry names (visible_sees c.point.proc_entry own) c
+        effect_seen w (visible_in program (number_of points c.point.proc_entry)) c.point.proc_entry names (visible_sees c.point.proc_entry own) c
         (access_of c.instr (is.offset c)) refl
 
     to_point : (kind : Kind) (b : ℕ) → Contains (places_of points.points) (point c.point.proc_entry b)
@@ -79,26 +80,26 @@ module _ (points : FlowPoints) (names : List Name) (program : Program) (has_code
         edge_formed (node_of points (point c.point.proc_entry b)) kind (point_small _ at) (point_owner points names program has_code is _ at) within
 
     flow_formed : (flow : Flow) → ((to : Point) → Contains (successors_of c.point.proc_entry flow) to → Contains (places_of points.points) to)
-        → All (IsEdgeOf program) (edges_by points (effect_of names c (is.offset c)) (node_of points c.point) c.point.proc_entry flow)
-    flow_formed (Next n) goes = all_one (IsEdgeOf program) _ (to_point (Do (effect_of names c (is.offset c))) n (goes _ (alone _)) assigns_seen)
-    flow_formed (Jump t) goes = all_one (IsEdgeOf program) _ (to_point (Do (effect_of names c (is.offset c))) t (goes _ (alone _)) assigns_seen)
+        → All (IsEdgeOf program) (edges_by points (effect_by w names c (is.offset c)) (node_of points c.point) c.point.proc_entry flow)
+    flow_formed (Next n) goes = all_one (IsEdgeOf program) _ (to_point (Do (effect_by w names c (is.offset c))) n (goes _ (alone _)) assigns_seen)
+    flow_formed (Jump t) goes = all_one (IsEdgeOf program) _ (to_point (Do (effect_by w names c (is.offset c))) t (goes _ (alone _)) assigns_seen)
     flow_formed (Branch n t) goes =
-        all_two (IsEdgeOf program) _ _ (to_point (Do (effect_of names c (is.offset c))) n (goes _ (first _ _)) assigns_seen)
-        (to_point (Do (effect_of names c (is.offset c))) t (goes _ (second _ _)) assigns_seen)
+        all_two (IsEdgeOf program) _ _ (to_point (Do (effect_by w names c (is.offset c))) n (goes _ (first _ _)) assigns_seen)
+        (to_point (Do (effect_by w names c (is.offset c))) t (goes _ (second _ _)) assigns_seen)
     flow_formed (Call t n) goes =
         let callee = owner_there points has_code (point t t) (goes (point t t) (first _ _)) in
-        all_one (IsEdgeOf program) _ (to_point (CallEdge (number_of points t) (effect_of names c (is.offset c))) n (goes _ (second _ _))
+        all_one (IsEdgeOf program) _ (to_point (CallEdge (number_of points t) (effect_by w names c (is.offset c))) n (goes _ (second _ _))
         (number_small points names program has_code is t callee, assigns_seen))
     flow_formed Return goes =
         all_one (IsEdgeOf program) _ (edge_formed (exit_node points c.point.proc_entry) (Do []) (exit_small _ own)
         (exit_owner points names program has_code is _ own) (All-nil _))
     flow_formed Halt goes = All-nil (IsEdgeOf program)
 
-    point_formed : All (IsEdgeOf program) (edges_of points (effect_of names c (is.offset c)) c)
+    point_formed : All (IsEdgeOf program) (edges_of points (effect_by w names c (is.offset c)) c)
     point_formed = flow_formed c.flow (λ to next. goes_on points c to has_code there next)
 
   pub edges_formed : All (IsEdgeOf program) program.edges
   edges_formed =
       subst (All (IsEdgeOf program)) (sym is.edges)
-      (all_flat_map (IsEdgeOf program) (λ c. edges_of points (effect_of names c (is.offset c)) c) points.points
+      (all_flat_map (IsEdgeOf program) (λ c. edges_of points (effect_by w names c (is.offset c)) c) points.points
       (λ k d below. point_formed (get_or points.points k d) (All-contains_itself points.points k d below)))

@@ -28,13 +28,14 @@ use Rattle.flow_points.specs.declared.code_points.Flow.TheVariants.{Call}
 use Rattle.report_text.specs.declared.names.Name.{Name}
 use Rattle.report_text.specs.declared.names.Name.TheVariants.{Register, Slot}
 use Rattle.report_text.specs.Names.{IsSeenIn}
+use Rattle.affine_lift.specs.declared.width.Width.{Width}
 use Rattle.affine_lift.specs.declared.value.Term.{Term}
 use Rattle.affine_lift.specs.declared.value.Value.{Value}
 use Rattle.affine_lift.specs.declared.value.Value.TheVariants.{Linear, Held, Unknown}
 use Rattle.affine_lift.specs.declared.store.FrameStore.{FrameStore}
 use Rattle.affine_lift.specs.Values.{upper, beside_zero, constant, imm_value, link_value, reg_value, shift_value, assigned, factor_of, is_register, multiple, place_of, row_of, is_nameable}
-use Rattle.affine_lift.specs.FrameSlots.{is_slot_at, loaded, stored, stored_in, stored_word, store_of, touches, width_of, is_whole, slot_offset}
-use Rattle.affine_lift.specs.Effects.{effect_at, register_effect, result_in, result_of, slot_effect}
+use Rattle.affine_lift.specs.FrameSlots.{is_slot_at, loaded, stored_by, stored_in_by, stored_word_by, store_of, touches_by, width_of, is_whole_by, slot_offset}
+use Rattle.affine_lift.specs.Effects.{effect_at_by, instr_in, register_effect, result_in, slot_effect_by}
 use Rattle.affine_lift.proofs.FirstPlaces.{position_within}
 
 -- each name that is seen in the procedure p has its position in the set
@@ -49,7 +50,7 @@ both_true : (a b : Bool) → (a && b) ≡ true → a ≡ true
 both_true true b e = refl
 both_true false b e = e
 
-module _ (set p : ℕ) (names : List Name) (sees : Sees set p names) where
+module _ (w : Width) (set p : ℕ) (names : List Name) (sees : Sees set p names) where
   row_seen : (f g : Term) (c : ℕ) → IsZeroOutside (with_constant set) (row_of names f g c)
   row_seen f g c =
       zero_outside_below set (row_of names f g c) (IsRow-vector _).width (λ k below out.
@@ -111,29 +112,29 @@ module _ (set p : ℕ) (names : List Name) (sees : Sees set p names) where
   loaded_seen Lhu access = tt
   loaded_seen Lwu access = tt
 
-  stored_seen : (s : FrameStore) (k : ℕ) (name : Name) → slice_get names k ≡ Some name → IfSome (stored_in names p s k name) (IsAssignIn set)
+  stored_seen : (s : FrameStore) (k : ℕ) (name : Name) → slice_get names k ≡ Some name → IfSome (stored_in_by w names p s k name) (IsAssignIn set)
   stored_seen s k (Register r) at = tt
-  stored_seen s k (Slot q n) at = by (q == p && touches (width_of s.op) s.offset n) refl
+  stored_seen s k (Slot q n) at = by (q == p && touches_by w (width_of s.op) s.offset n) refl
     where
       word_seen : IsTrue (has set k) → (b : Bool) → IsAssignIn set (cond b (assigned names k (multiple 1 s.register)) (Any k))
       word_seen here true = assigned_seen k (multiple 1 s.register) here tt
       word_seen here false = here
 
-      by : (b : Bool) → (q == p && touches (width_of s.op) s.offset n) ≡ b → IfSome (cond b (Some (stored_word names s k n)) None) (IsAssignIn set)
+      by : (b : Bool) → (q == p && touches_by w (width_of s.op) s.offset n) ≡ b → IfSome (cond b (Some (stored_word_by w names s k n)) None) (IsAssignIn set)
       by true e =
-          let own = eqb-true q p (both_true (q == p) (touches (width_of s.op) s.offset n) e) in
-          word_seen (sees k (Slot q n) at own) (is_whole s.op && s.offset == slot_offset n)
+          let own = eqb-true q p (both_true (q == p) (touches_by w (width_of s.op) s.offset n) e) in
+          word_seen (sees k (Slot q n) at own) (is_whole_by w s.op && s.offset == slot_offset n)
       by false e = tt
 
   stores_seen : (s : FrameStore) (k : ℕ) (rest : List Name) → ((j : ℕ) (name : Name) → slice_get rest j ≡ Some name → slice_get names (k + j) ≡ Some name)
-      → All (IsAssignIn set) (filter_map (stored names p s) (enumerate_from k rest))
+      → All (IsAssignIn set) (filter_map (stored_by w names p s) (enumerate_from k rest))
   stores_seen s k [] at = All-nil (IsAssignIn set)
   stores_seen s k (name ∷ rest) at =
-      one (stored_in names p s k name) (stored_seen s k name (subst (λ (j : ℕ). slice_get names j ≡ Some name) (add-zero k) (at 0 name refl)))
+      one (stored_in_by w names p s k name) (stored_seen s k name (subst (λ (j : ℕ). slice_get names j ≡ Some name) (add-zero k) (at 0 name refl)))
       (stores_seen s (k + 1) rest (λ j other there. subst (λ (i : ℕ). slice_get names i ≡ Some other) (omega arith) (at (suc j) other there)))
     where
-      one : (o : Option Assign) → IfSome o (IsAssignIn set) → All (IsAssignIn set) (filter_map (stored names p s) (enumerate_from (k + 1) rest))
-          → All (IsAssignIn set) (cons_option o (filter_map (stored names p s) (enumerate_from (k + 1) rest)))
+      one : (o : Option Assign) → IfSome o (IsAssignIn set) → All (IsAssignIn set) (filter_map (stored_by w names p s) (enumerate_from (k + 1) rest))
+          → All (IsAssignIn set) (cons_option o (filter_map (stored_by w names p s) (enumerate_from (k + 1) rest)))
       one None seen all = all
       one (Some assign) seen all = All-cons (IsAssignIn set) assign _ seen all
 
@@ -186,12 +187,12 @@ module _ (set p : ℕ) (names : List Name) (sees : Sees set p names) where
   result_seen c access Ecall e = register_seen 10 Unknown tt
   result_seen c access Ebreak e = All-nil (IsAssignIn set)
 
-  pub effect_seen : (c : CodePoint) (access : Option ℕ) → c.point.proc_entry ≡ p → All (IsAssignIn set) (effect_at names c access)
+  pub effect_seen : (c : CodePoint) (access : Option ℕ) → c.point.proc_entry ≡ p → All (IsAssignIn set) (effect_at_by w names c access)
   effect_seen c access e =
-      All-append (IsAssignIn set) (register_effect names (result_of names c access)) (slot_effect names c.point.proc_entry (store_of c.instr access))
-      (result_seen c access c.instr e)
-      (subst (λ (q : ℕ). All (IsAssignIn set) (slot_effect names q (store_of c.instr access))) (sym e) (slots_seen (store_of c.instr access)))
+      All-append (IsAssignIn set) (register_effect names (result_in names c access (instr_in w c.instr))) (slot_effect_by w names c.point.proc_entry (store_of c.instr access))
+      (result_seen c access (instr_in w c.instr) e)
+      (subst (λ (q : ℕ). All (IsAssignIn set) (slot_effect_by w names q (store_of c.instr access))) (sym e) (slots_seen (store_of c.instr access)))
     where
-      slots_seen : (o : Option FrameStore) → All (IsAssignIn set) (slot_effect names p o)
+      slots_seen : (o : Option FrameStore) → All (IsAssignIn set) (slot_effect_by w names p o)
       slots_seen None = All-nil (IsAssignIn set)
       slots_seen (Some s) = stores_seen s 0 names (λ j name there. subst (λ (i : ℕ). slice_get names i ≡ Some name) (omega arith) there)

@@ -20,8 +20,9 @@ use Rattle.flow_points.proofs.Lists.{item_there}
 use Rattle.flow_points.proofs.PointLaws.{all_procedures, ascending, begins}
 use Rattle.report_text.specs.declared.names.Name.{Name}
 use Rattle.report_text.specs.declared.names.Name.TheVariants.{Register, Slot}
-use Rattle.affine_lift.specs.Effects.{effect_of}
-use Rattle.affine_lift.specs.Lifting.{IsLifted, edges_by, edges_of, is_slot_of, is_tracked_register, number_of, positions_where, proc_of}
+use Rattle.affine_lift.specs.declared.width.Width.{Width}
+use Rattle.affine_lift.specs.Effects.{effect_by}
+use Rattle.affine_lift.specs.Lifting.{IsLiftedBy, edges_by, edges_of, is_slot_of, is_tracked_register, number_of, positions_where, proc_of}
 use Rattle.affine_lift.proofs.EdgesFormed.{edges_formed, exit_small, point_small}
 use Rattle.affine_lift.proofs.OffsetWords.{point_at}
 use Rattle.affine_lift.proofs.Owners.{exit_owner, number_small, point_owner, proc_at, procs_long}
@@ -46,8 +47,8 @@ few_by points assigns u p (Call t n) = omega arith
 few_by points assigns u p Return = omega arith
 few_by points assigns u p Halt = omega arith
 
-module _ (points : FlowPoints) (names : List Name) (program : Program) (has_code : HasCode points) (few : length names ≤ 16)
-    (is : IsLifted points names program) where
+module _ {w : Width} (points : FlowPoints) (names : List Name) (program : Program) (has_code : HasCode points) (few : length names ≤ 16)
+    (is : IsLiftedBy w points names program) where
   ends_formed : (a : ℕ) → Contains points.procedures a → OwnsItsEnds program (number_of points a)
   ends_formed a there =
       let entry = proc_at points names program has_code is (λ proc. proc.entry) a there in
@@ -119,9 +120,9 @@ module _ (points : FlowPoints) (names : List Name) (program : Program) (has_code
   few_edges : length program.edges < 2 ^ 32
   few_edges =
       let same = ap length is.edges in
-      let sum = length-flat_map (λ c. edges_of points (effect_of names c (is.offset c)) c) points.points in
-      let most = sum_by-le (λ c. length (edges_of points (effect_of names c (is.offset c)) c)) 2 points.points
-      (λ k d below. few_by points (effect_of names (get_or points.points k d) (is.offset (get_or points.points k d))) _ _ (get_or points.points k d).flow) in
+      let sum = length-flat_map (λ c. edges_of points (effect_by w names c (is.offset c)) c) points.points in
+      let most = sum_by-le (λ c. length (edges_of points (effect_by w names c (is.offset c)) c)) 2 points.points
+      (λ k d below. few_by points (effect_by w names (get_or points.points k d) (is.offset (get_or points.points k d))) _ _ (get_or points.points k d).flow) in
       omega (arith, has_code.are.few)
 
   pub lifted_formed : IsWellFormed program

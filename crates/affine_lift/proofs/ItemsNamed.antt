@@ -7,7 +7,7 @@ use Rattle.std.proofs.lemmas.List.Elements.{All-push}
 use Rattle.std.proofs.lemmas.List.Quantifiers.{all_pairs_push}
 use Rattle.report_text.specs.declared.names.Name.{Name}
 use Rattle.numeral_read.specs.Lists.{texts_of}
-use Rattle.affine_lift.specs.Tracking.{AreNames, Breaks, IsFurther, IsIn, IsItemRefusal, Names, Scope}
+use Rattle.affine_lift.specs.Tracking.{AreNames, Breaks, IsFurther, IsIn, IsItemRefusal, NamesBy, Scope}
 use Rattle.refusals.specs.declared.track.TrackRefusal.{TrackRefusal}
 
 text_at : (items : List (Bor (List ℕ))) (i : ℕ) (d : Bor (List ℕ)) → i < length items → get_or (texts_of items) i [] ≡ (get_or items i d).now
@@ -36,7 +36,7 @@ at_no_place names name absent k e below is = absent (k, below, get_or_same names
 names_push : (scope : Scope) (items : List (List ℕ)) (names : List Name) (item : List ℕ) (name : Name) → AreNames scope items names
     → IsFurther scope names item name → AreNames scope (items ++ item ∷ []) (names ++ name ∷ [])
 names_push scope items names item name are further = record {
-  named = all_zip_push (Names scope.symbols) items names item name are.named further.named;
+  named = all_zip_push (NamesBy scope.width scope.symbols) items names item name are.named further.named;
   within = All-push (IsIn scope.procedures) names name are.within further.within;
   apart = all_pairs_push (λ a b. a ≢ b) names name are.apart (at_no_place names name further.other);
 }

@@ -5,10 +5,10 @@ use Rattle.std.proofs.lemmas.Bool.{eqb-true}
 use Rattle.std.proofs.lemmas.List.Sums.{fails_before_first}
 use Rattle.elf_image.specs.declared.symbol.Symbol.{Symbol}
 use Rattle.rv_decode.specs.Registers.{register_of}
-use Rattle.report_text.specs.Names.{IsAllowedBelow}
 use Rattle.report_text.specs.declared.names.Name.{Name}
 use Rattle.numeral_read.specs.Reading.{IsAddress}
-use Rattle.affine_lift.specs.Tracking.{is_colon, HasColon, HasName, by_register, by_place, IsDistance, IsPlace, IsSlotText, Names, address, register, slot, symbol, value_of}
+use Rattle.affine_lift.specs.declared.width.Width.{Width}
+use Rattle.affine_lift.specs.Tracking.{is_colon, HasColon, HasName, by_register, by_place, IsBelowBy, IsDistance, IsPlace, IsSlotText, NamesBy, address, register, slot, symbol, value_of}
 use Rattle.affine_lift.proofs.FirstPlaces.{passes_first}
 
 pub colon_parts : (item : List ℕ) (r : Option (Bor (List ℕ) × Bor (List ℕ)))
@@ -42,10 +42,10 @@ slot_text symbols item before rest p colon is rest_is place = record {
   rest_is = rest_is;
 }
 
-pub no_distance : (symbols : List Symbol) (item : List ℕ) (p : ℕ) (rest : List ℕ) → IsSlotText symbols item p rest
-    → ((n : ℕ) → IsDistance rest n → IsAllowedBelow n → ⊥) → (name : Name) → Names symbols item name → ⊥
-no_distance symbols item p rest text never name (register r none e set is) = none text.colon
-no_distance symbols item p rest text never name (slot q n other is distance allowed same) =
+pub no_distance : (w : Width) (symbols : List Symbol) (item : List ℕ) (p : ℕ) (rest : List ℕ) → IsSlotText symbols item p rest
+    → ((n : ℕ) → IsDistance rest n → IsBelowBy w n → ⊥) → (name : Name) → NamesBy w symbols item name → ⊥
+no_distance w symbols item p rest text never name (register r none e set is) = none text.colon
+no_distance w symbols item p rest text never name (slot q n other is distance allowed same) =
     never n (subst (λ (t : List ℕ). IsDistance t n) (is.rest_is ∙ sym text.rest_is) distance) allowed
 
 -- a text that is no address is a place where it names a symbol

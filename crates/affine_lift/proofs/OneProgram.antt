@@ -14,9 +14,11 @@ use Rattle.frame_offsets.specs.Frames.{FrameWalk, IsOffset}
 use Rattle.frame_offsets.proofs.EachWalked.{has_walk}
 use Rattle.frame_offsets.proofs.Walking.{well_formed}
 use Rattle.report_text.specs.declared.names.Name.{Name}
+use Rattle.affine_lift.specs.declared.width.Width.{Width}
+use Rattle.affine_lift.specs.declared.width.Width.TheVariants.{Wide}
 use Rattle.affine_lift.specs.FrameSlots.{access_of}
-use Rattle.affine_lift.specs.Effects.{AreOffsetsAt, effect_at, effect_of}
-use Rattle.affine_lift.specs.Lifting.{IsLifted, edges_of}
+use Rattle.affine_lift.specs.Effects.{AreOffsetsAt, effect_at_by, effect_by, effect_of}
+use Rattle.affine_lift.specs.Lifting.{IsLiftedBy, edges_of}
 use Rattle.affine_lift.proofs.Nodes.{number_at}
 
 one_offset : (points : List CodePoint) (c : CodePoint) (r : ℕ) (x y : Option ℕ)
@@ -47,12 +49,16 @@ flat_map_same f g (x ∷ xs) same =
     ap₂ (λ ys zs. ys ++ zs) (same 0 x (omega arith)) (flat_map_same f g xs (λ k d below. same (suc k) d (omega arith)))
 
 -- offsets that are told over all walks give one effect
+one_effect_by : (w : Width) (points : FlowPoints) (names : List Name) (c : CodePoint) (f g : ℕ → Option ℕ) → HasCode points → Contains points.points c
+    → AreOffsetsAt points.points c f → AreOffsetsAt points.points c g → effect_by w names c f ≡ effect_by w names c g
+one_effect_by w points names c f g has there first second =
+    let found = number_at points.points c there in
+    ap (effect_at_by w names c) (one_access c.instr f g (well_formed points found.0 c has found.1)
+    (λ r small. one_offset points.points c r (f r) (g r) (has_walk points c has there) (first r small) (second r small)))
+
 pub one_effect : (points : FlowPoints) (names : List Name) (c : CodePoint) (f g : ℕ → Option ℕ) → HasCode points → Contains points.points c
     → AreOffsetsAt points.points c f → AreOffsetsAt points.points c g → effect_of names c f ≡ effect_of names c g
-one_effect points names c f g has there first second =
-    let found = number_at points.points c there in
-    ap (effect_at names c) (one_access c.instr f g (well_formed points found.0 c has found.1)
-    (λ r small. one_offset points.points c r (f r) (g r) (has_walk points c has there) (first r small) (second r small)))
+one_effect points names c f g has there first second = one_effect_by Wide points names c f g has there first second
 
 made : ℕ → ℕ → List Proc → ℕ → List ℕ → List Edge → ℕ → Program
 made width registers procs nodes owners edges start =
@@ -66,18 +72,18 @@ from_fields p q width registers procs nodes owners edges start =
     λ i. made (width i) (registers i) (procs i) (nodes i) (owners i) (edges i) (start i) in
     same
 
-pub one_program : (points : FlowPoints) (names : List Name) (first second : Program) → HasCode points → IsLifted points names first
-    → IsLifted points names second → first ≡ second
-one_program points names first second has is other =
+pub one_program : {w : Width} (points : FlowPoints) (names : List Name) (first second : Program) → HasCode points → IsLiftedBy w points names first
+    → IsLiftedBy w points names second → first ≡ second
+one_program {w = w} points names first second has is other =
     from_fields first second (is.width ∙ sym other.width) (is.registers ∙ sym other.registers) (is.procs ∙ sym other.procs) (is.nodes ∙ sym other.nodes)
     (is.owners ∙ sym other.owners)
     (is.edges
-    ∙ flat_map_same (λ c. edges_of points (effect_of names c (is.offset c)) c) (λ c. edges_of points (effect_of names c (other.offset c)) c) points.points
+    ∙ flat_map_same (λ c. edges_of points (effect_by w names c (is.offset c)) c) (λ c. edges_of points (effect_by w names c (other.offset c)) c) points.points
     (λ k d below.
     let c = get_or points.points k d in
     let there = All-contains_itself points.points k d below in
     ap (λ assigns. edges_of points assigns (get_or points.points k d))
-    (one_effect points names (get_or points.points k d) (is.offset (get_or points.points k d)) (other.offset (get_or points.points k d)) has there
+    (one_effect_by w points names (get_or points.points k d) (is.offset (get_or points.points k d)) (other.offset (get_or points.points k d)) has there
     (is.offsets_are _ there) (other.offsets_are _ there)))
     ∙ sym other.edges)
     (is.start ∙ sym other.start)

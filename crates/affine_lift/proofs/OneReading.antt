@@ -11,7 +11,8 @@ use Rattle.refusals.specs.declared.track.TrackRefusal.{TrackRefusal}
 use Rattle.refusals.specs.declared.track.TrackRefusal.TheVariants.{Memory}
 use Rattle.numeral_read.specs.Lists.{items_of}
 use Rattle.numeral_read.proofs.Addresses.{one_address}
-use Rattle.affine_lift.specs.Tracking.{HasName, IsDistance, IsIn, IsPlace, IsTracked, IsTrackRefusal, Names, Breaks, Scope, address, bad_item, bad_slot, by_place, by_register, empty, memory, no_such_procedure, register, repeated, slot, symbol, too_many, unknown_name}
+use Rattle.affine_lift.specs.declared.width.Width.{Width}
+use Rattle.affine_lift.specs.Tracking.{HasName, IsDistance, IsIn, IsPlace, IsTracked, IsTrackRefusal, NamesBy, Breaks, Scope, address, bad_item, bad_slot, by_place, by_register, empty, memory, no_such_procedure, register, repeated, slot, symbol, too_many, unknown_name}
 
 same_digits : (a b : ℕ) (xs ys : List ℕ) → a ∷ xs ≡ b ∷ ys → xs ≡ ys
 same_digits a b xs ys e = cc
@@ -28,50 +29,50 @@ one_distance text m n h k =
     h.value ∙ ap (digits_value 10) digits ∙ sym k.value
 
 -- an item names one name
-one_name : (symbols : List Symbol) (item : List ℕ) (a b : Name) → Names symbols item a → Names symbols item b → a ≡ b
-one_name symbols item a b (register r none e set is) (register q other d nonzero are) = cc
-one_name symbols item a b (register r none e set is) (slot q n rest text distance allowed are) = absurd (none text.colon)
-one_name symbols item a b (slot p n rest text distance allowed is) (register q other d nonzero are) = absurd (other text.colon)
-one_name symbols item a b (slot p n rest text distance allowed is) (slot q m more text' distance' allowed' are) =
+one_name : (w : Width) (symbols : List Symbol) (item : List ℕ) (a b : Name) → NamesBy w symbols item a → NamesBy w symbols item b → a ≡ b
+one_name w symbols item a b (register r none e set is) (register q other d nonzero are) = cc
+one_name w symbols item a b (register r none e set is) (slot q n rest text distance allowed are) = absurd (none text.colon)
+one_name w symbols item a b (slot p n rest text distance allowed is) (register q other d nonzero are) = absurd (other text.colon)
+one_name w symbols item a b (slot p n rest text distance allowed is) (slot q m more text' distance' allowed' are) =
     let place = one_place symbols _ p q text.place text'.place in
     let behind : rest ≡ more = text.rest_is ∙ sym text'.rest_is in
     let below = one_distance more n m (subst (λ (x : List ℕ). IsDistance x n) behind distance) distance' in
     is ∙ ap₂ Slot place below ∙ sym are
 
-has_name : (symbols : List Symbol) (item : List ℕ) (name : Name) → Names symbols item name → HasName symbols item
-has_name symbols item name (register r none e set is) = by_register r none e set
-has_name symbols item name (slot p n rest text distance allowed is) = by_place p rest text
+has_name : (w : Width) (symbols : List Symbol) (item : List ℕ) (name : Name) → NamesBy w symbols item name → HasName symbols item
+has_name w symbols item name (register r none e set is) = by_register r none e set
+has_name w symbols item name (slot p n rest text distance allowed is) = by_place p rest text
 
-same_names : (symbols : List Symbol) (items : List (List ℕ)) (xs ys : List Name) → AllZip (Names symbols) items xs
-    → AllZip (Names symbols) items ys → xs ≡ ys
-same_names symbols [] [] [] h k = refl
-same_names symbols [] [] (y ∷ ys) h k = absurd k
-same_names symbols [] (x ∷ xs) ys h k = absurd h
-same_names symbols (item ∷ items) [] ys h k = absurd h
-same_names symbols (item ∷ items) (x ∷ xs) [] h k = absurd k
-same_names symbols (item ∷ items) (x ∷ xs) (y ∷ ys) h k =
-    ap₂ (λ n ns. n ∷ ns) (one_name symbols item x y h.0 k.0) (same_names symbols items xs ys h.1 k.1)
+same_names : (w : Width) (symbols : List Symbol) (items : List (List ℕ)) (xs ys : List Name) → AllZip (NamesBy w symbols) items xs
+    → AllZip (NamesBy w symbols) items ys → xs ≡ ys
+same_names w symbols [] [] [] h k = refl
+same_names w symbols [] [] (y ∷ ys) h k = absurd k
+same_names w symbols [] (x ∷ xs) ys h k = absurd h
+same_names w symbols (item ∷ items) [] ys h k = absurd h
+same_names w symbols (item ∷ items) (x ∷ xs) [] h k = absurd k
+same_names w symbols (item ∷ items) (x ∷ xs) (y ∷ ys) h k =
+    ap₂ (λ n ns. n ∷ ns) (one_name w symbols item x y h.0 k.0) (same_names w symbols items xs ys h.1 k.1)
 
 pub one_list : (scope : Scope) (text : List ℕ) (xs ys : List Name) → IsTracked scope text xs → IsTracked scope text ys → xs ≡ ys
-one_list scope text xs ys h k = same_names scope.symbols (items_of text) xs ys h.names_are.named k.names_are.named
+one_list scope text xs ys h k = same_names scope.width scope.symbols (items_of text) xs ys h.names_are.named k.names_are.named
 
 -- the names of items before one, its own, and those behind
-record Parted (symbols : List Symbol) (front : List (List ℕ)) (item : List ℕ) (names : List Name) : Type 0 where
+record Parted (w : Width) (symbols : List Symbol) (front : List (List ℕ)) (item : List ℕ) (names : List Name) : Type 0 where
   before : List Name
   name : Name
   behind : List Name
   whole : names ≡ before ++ name ∷ behind
-  front_named : AllZip (Names symbols) front before
-  item_named : Names symbols item name
+  front_named : AllZip (NamesBy w symbols) front before
+  item_named : NamesBy w symbols item name
 
-parted : (symbols : List Symbol) (front : List (List ℕ)) (item : List ℕ) (rest : List (List ℕ)) (names : List Name) →
-    AllZip (Names symbols) (front ++ item ∷ rest) names → Parted symbols front item names
-parted symbols [] item rest [] h = absurd h
-parted symbols [] item rest (n ∷ names) h =
+parted : (w : Width) (symbols : List Symbol) (front : List (List ℕ)) (item : List ℕ) (rest : List (List ℕ)) (names : List Name) →
+    AllZip (NamesBy w symbols) (front ++ item ∷ rest) names → Parted w symbols front item names
+parted w symbols [] item rest [] h = absurd h
+parted w symbols [] item rest (n ∷ names) h =
     record { before = []; name = n; behind = names; whole = refl; front_named = tt; item_named = h.0 }
-parted symbols (first_item ∷ front) item rest [] h = absurd h
-parted symbols (first_item ∷ front) item rest (n ∷ names) h =
-    let more = parted symbols front item rest names h.1 in
+parted w symbols (first_item ∷ front) item rest [] h = absurd h
+parted w symbols (first_item ∷ front) item rest (n ∷ names) h =
+    let more = parted w symbols front item rest names h.1 in
     record {
       before = n ∷ more.before;
       name = more.name;
@@ -98,16 +99,16 @@ within_at procedures before behind name all =
 
 -- an item of a list that is read breaks no rule
 not_broken : (scope : Scope) (before behind : List Name) (name : Name) (item : List ℕ) (place : ℕ) (refusal : TrackRefusal)
-    → Names scope.symbols item name → All (IsIn scope.procedures) (before ++ name ∷ behind)
+    → NamesBy scope.width scope.symbols item name → All (IsIn scope.procedures) (before ++ name ∷ behind)
     → AllPairs (λ a b. a ≢ b) (before ++ name ∷ behind) → Breaks scope before item place refusal → ⊥
 not_broken scope before behind name item place refusal named all apart (unknown_name none is) =
-    none (has_name scope.symbols item name named)
+    none (has_name scope.width scope.symbols item name named)
 not_broken scope before behind name item place refusal named all apart (bad_slot some none is) = none name named
 not_broken scope before behind name item place refusal named all apart (no_such_procedure other named' out is) =
-    out (subst (IsIn scope.procedures) (one_name scope.symbols item name other named named')
+    out (subst (IsIn scope.procedures) (one_name scope.width scope.symbols item name other named named')
     (within_at scope.procedures before behind name all))
 not_broken scope before behind name item place refusal named all apart (repeated other named' there twice is) =
-    let same = one_name scope.symbols item other name named' named in
+    let same = one_name scope.width scope.symbols item other name named' named in
     not_before before behind name apart (subst (λ (n : Name). Contains before n) same twice)
 
 pub not_refused : (scope : Scope) (text : List ℕ) (names : List Name) (refusal : TrackRefusal) → IsTracked scope text names
@@ -116,9 +117,9 @@ not_refused scope text names refusal h (empty none is) = absurd (h.some none)
 not_refused scope text names refusal h (too_many some more is) = let few = h.few in absurd (omega arith)
 not_refused scope text names refusal h (memory is) = is
 not_refused scope text names refusal h (bad_item some few bad) =
-    let zip = subst (λ (items : List (List ℕ)). AllZip (Names scope.symbols) items names) bad.split h.names_are.named in
-    let parts = parted scope.symbols bad.front bad.item bad.rest names zip in
-    let same = same_names scope.symbols bad.front bad.names parts.before bad.names_are.named parts.front_named in
+    let zip = subst (λ (items : List (List ℕ)). AllZip (NamesBy scope.width scope.symbols) items names) bad.split h.names_are.named in
+    let parts = parted scope.width scope.symbols bad.front bad.item bad.rest names zip in
+    let same = same_names scope.width scope.symbols bad.front bad.names parts.before bad.names_are.named parts.front_named in
     absurd (not_broken scope parts.before parts.behind parts.name bad.item _ refusal parts.item_named
     (subst (λ (ns : List Name). All (IsIn scope.procedures) ns) parts.whole h.names_are.within)
     (subst (λ (ns : List Name). AllPairs (λ a b. a ≢ b) ns) parts.whole h.names_are.apart)

@@ -9,11 +9,12 @@ use Rattle.flow_points.specs.PointLists.{FlowPoints, HasCode, entries_of, places
 use Rattle.flow_points.specs.declared.code_points.Point.{Point}
 use Rattle.flow_points.specs.declared.code_points.CodePoint.{CodePoint}
 use Rattle.report_text.specs.declared.names.Name.{Name}
-use Rattle.affine_lift.specs.Lifting.{IsLifted, exit_of, node_of, number_of, proc_of}
+use Rattle.affine_lift.specs.declared.width.Width.{Width}
+use Rattle.affine_lift.specs.Lifting.{IsLiftedBy, exit_of, node_of, number_of, proc_of}
 use Rattle.affine_lift.proofs.Procedures.{code_there, stands}
 
-module _ (points : FlowPoints) (names : List Name) (program : Program) (has_code : HasCode points)
-    (is : IsLifted points names program) where
+module _ {w : Width} (points : FlowPoints) (names : List Name) (program : Program) (has_code : HasCode points)
+    (is : IsLiftedBy w points names program) where
   pub procs_long : length program.procs ≡ length points.procedures
   procs_long = ap length is.procs ∙ length-map points.procedures (proc_of points names)
 

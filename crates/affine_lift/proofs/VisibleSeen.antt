@@ -12,7 +12,8 @@ use Rattle.frame_offsets.proofs.Walking.{get_some}
 use Rattle.report_text.specs.Names.{IsSeenAt, IsSeenIn}
 use Rattle.report_text.specs.declared.names.Name.{Name}
 use Rattle.report_text.specs.declared.names.Name.TheVariants.{Register, Slot}
-use Rattle.affine_lift.specs.Lifting.{IsLifted, is_slot_of, is_tracked_register, number_of}
+use Rattle.affine_lift.specs.declared.width.Width.{Width}
+use Rattle.affine_lift.specs.Lifting.{IsLiftedBy, is_slot_of, is_tracked_register, number_of}
 use Rattle.affine_lift.proofs.EdgesFormed.{slots_at, visible_sees}
 use Rattle.affine_lift.proofs.Nodes.{node_is}
 use Rattle.affine_lift.proofs.Owners.{point_owner}
@@ -29,8 +30,8 @@ slot_seen a None t = cc
 slot_seen a (Some (Register r)) t = cc
 slot_seen a (Some (Slot p n)) t = eqb-true p a t
 
-pub visible_seen : (points : FlowPoints) (names : List Name) (program : Program) (u : ℕ) (code : CodePoint) (k : ℕ) → HasCode points
-    → IsLifted points names program → slice_get points.points u ≡ Some code
+pub visible_seen : {w : Width} (points : FlowPoints) (names : List Name) (program : Program) (u : ℕ) (code : CodePoint) (k : ℕ) → HasCode points
+    → IsLiftedBy w points names program → slice_get points.points u ≡ Some code
     → IsTrue (has (visible_in program (owner_of program u)) k) ↔ IsSeenAt names code.point.proc_entry k
 visible_seen points names program u code k has_code is at =
     let a = code.point.proc_entry in

@@ -16,10 +16,14 @@
 --                                      assignments from a return to the exit, and else one for each point where the flow
 --                                      goes on, in the order of `successors_of`
 --   edges_of points assigns c          the edges from the point c
---   edges_along points offset names cs the edges from each point of a list in turn
+--   edges_along_by w points offset names cs
+--                                      the edges from each point of a list in turn, with assignments to words, or to their low
+--                                      32 bits
+--   edges_along points offset names cs the same with assignments to words
 --   offset_from points offsets c r     the offset that a table of all points tells of register r at c
 --   TellsOffsets points offset         offset c r is the offset of register r at the point c, if it has one there
---   IsLifted points names program      the program is that of the points with these names
+--   IsLiftedBy w points names program  the program is that of the points with these names, of words or of their low 32 bits
+--   IsLifted points names program      so it is, of words
 --   IsSlotAt names k                   the name at position k is a slot
 --   AreSlotWrites names assigns set    the set has the slots that are assigned
 --   WritesSlots points names c set     the set has the slots that the point c assigns
@@ -43,8 +47,10 @@ use Rattle.report_text.specs.declared.names.Name.{Name}
 use Rattle.report_text.specs.declared.names.Name.TheVariants.{Register, Slot}
 use Rattle.affine_lift.specs.declared.chosen.Chosen.{Chosen}
 use Rattle.affine_lift.specs.declared.chosen.Chosen.TheVariants.{Registers, SlotsOf, SlotsTouched}
+use Rattle.affine_lift.specs.declared.width.Width.{Width}
+use Rattle.affine_lift.specs.declared.width.Width.TheVariants.{Wide}
 use Rattle.affine_lift.specs.FrameSlots.{is_touched}
-use Rattle.affine_lift.specs.Effects.{effect_of, AreOffsetsAt, IsEffect}
+use Rattle.affine_lift.specs.Effects.{effect_by, AreOffsetsAt, IsEffect}
 
 abbrev pub is_at : Point → CodePoint → Bool
 is_at p c = c.point.proc_entry == p.proc_entry && c.point.address == p.address
@@ -90,8 +96,11 @@ edges_by points assigns u p flow = map (λ to. edge u (node_of points to) (Do as
 abbrev pub edges_of : FlowPoints → List Assign → CodePoint → List Edge
 edges_of points assigns c = edges_by points assigns (node_of points c.point) c.point.proc_entry c.flow
 
+abbrev pub edges_along_by : Width → FlowPoints → (CodePoint → ℕ → Option ℕ) → List Name → List CodePoint → List Edge
+edges_along_by w points offset names cs = flat_map (λ c. edges_of points (effect_by w names c (offset c)) c) cs
+
 abbrev pub edges_along : FlowPoints → (CodePoint → ℕ → Option ℕ) → List Name → List CodePoint → List Edge
-edges_along points offset names cs = flat_map (λ c. edges_of points (effect_of names c (offset c)) c) cs
+edges_along points offset names cs = edges_along_by Wide points offset names cs
 
 abbrev pub offset_from : FlowPoints → List (Option ℕ) → CodePoint → ℕ → Option ℕ
 offset_from points offsets c r = offset_at offsets (node_of points c.point) r
@@ -99,7 +108,7 @@ offset_from points offsets c r = offset_at offsets (node_of points c.point) r
 abbrev pub TellsOffsets : List CodePoint → (CodePoint → ℕ → Option ℕ) → Type 0
 TellsOffsets points offset = (c : CodePoint) → Contains points c → AreOffsetsAt points c (offset c)
 
-pub record IsLifted (points : FlowPoints) (names : List Name) (program : Program) : Type 0 where
+pub record IsLiftedBy (w : Width) (points : FlowPoints) (names : List Name) (program : Program) : Type 0 where
   pub width : program.width ≡ length names
   pub registers : program.registers ≡ positions_where is_tracked_register names
   pub procs : program.procs ≡ map (proc_of points names) points.procedures
@@ -108,7 +117,10 @@ pub record IsLifted (points : FlowPoints) (names : List Name) (program : Program
   pub start : program.start ≡ number_of points points.entry
   pub offset : CodePoint → ℕ → Option ℕ
   pub offsets_are : TellsOffsets points.points offset
-  pub edges : program.edges ≡ edges_along points offset names points.points
+  pub edges : program.edges ≡ edges_along_by w points offset names points.points
+
+abbrev pub IsLifted : FlowPoints → List Name → Program → Type 0
+IsLifted points names program = IsLiftedBy Wide points names program
 
 abbrev pub IsSlotAt : List Name → ℕ → Type 0
 IsSlotAt names k = (p n : ℕ) × (slice_get names k ≡ Some (Slot p n))

@@ -4,16 +4,18 @@ ghost use Rattle.std.specs.Prelude.{◌≡◌, ◌≢◌, ◌↔◌, ℕ, ◌+�
 ghost use Rattle.std.specs.List.{after_first, before_first};
 ghost use Rattle.std.specs.Str.{bytes_eq};
 ghost use Rattle.rv_decode.specs.Registers.{register_of};
-ghost use Rattle.report_text.specs.Names.{IsAllowedBelow, IsName};
+ghost use Rattle.report_text.specs.Names.{IsName, IsNarrowName};
 ghost use Rattle.report_text.specs.declared.names.Name.{Name};
 ghost use Rattle.numeral_read.specs.Lists.{texts_of};
-ghost use Rattle.affine_lift.specs.Tracking.{is_colon, HasColon, AreNames, Breaks, HasName, IsDistance, IsFurther, IsIn, IsNamesRefusal, IsPlace, IsSlotText, IsTracked, IsTrackRefusal, Names, scope_of, value_of};
+ghost use Rattle.affine_lift.specs.declared.width.Width.TheVariants.{Narrow};
+ghost use Rattle.affine_lift.specs.Tracking.{is_colon, HasColon, AreNames, Breaks, HasName, IsDistance, IsFurther, IsIn, IsNamesRefusal, IsPlace, IsSlotText, IsTracked, IsTrackRefusal, IsBelowBy, IsNameBy, NamesBy, scope_by, scope_of, value_of};
 
+use crate::width::Width;
 use elf_image::{Image, Symbol};
 use flow_points::Points;
 use numeral_read::{begins_with, behind, items_between_commas, number_of, read_address};
 use refusals::TrackRefusal;
-use report_text::{Name, Tracked};
+use report_text::{Name, NarrowTracked, Tracked};
 use rv_decode::read_register;
 use sqlite_items::Items;
 use std::alloc::{AllocError, Global};
@@ -28,6 +30,41 @@ pub fn read_tracked(
     ensures { MatchResult result (λ tracked. IsTracked (scope_of image.now.symbols points.now.procedures) text.now tracked.names)
         (IsTrackRefusal (scope_of image.now.symbols points.now.procedures) text.now) }
 {
+    match names_in(alloc, Width::Wide, text, image, points) {
+        Ok(names) => Ok(Tracked { names }),
+        Err(refusal) => Err(refusal),
+    }
+}
+
+/// The same for slots of four bytes.
+pub fn read_narrow_tracked(
+    alloc: Global,
+    text: &str,
+    image: &Image,
+    points: &Points,
+) -> Result<NarrowTracked, TrackRefusal>
+    ensures { MatchResult result (λ tracked. IsTracked (scope_by Narrow image.now.symbols points.now.procedures) text.now tracked.names)
+        (IsTrackRefusal (scope_by Narrow image.now.symbols points.now.procedures) text.now) }
+{
+    match names_in(alloc, Width::Narrow, text, image, points) {
+        Ok(names) => Ok(NarrowTracked { names }),
+        Err(refusal) => Err(refusal),
+    }
+}
+
+fn names_in(
+    alloc: Global,
+    width: Width,
+    text: &str,
+    image: &Image,
+    points: &Points,
+) -> Result<Items<Name>, TrackRefusal>
+    ensures names { MatchResult result (IsTracked (scope_by width image.now.symbols points.now.procedures) text.now)
+        (IsTrackRefusal (scope_by width image.now.symbols points.now.procedures) text.now) }
+    ensures allowed { IfOk result (All (IsNameBy width)) }
+    ensures some { IfOk result (λ names. 1 ≤ length names) }
+    ensures few { IfOk result (λ names. length names ≤ 16) }
+{
     if text.is_empty() {
         return Err(TrackRefusal::Empty);
     }
@@ -35,25 +72,34 @@ pub fn read_tracked(
     if items.len() > 16 {
         return Err(TrackRefusal::TooMany(16));
     }
-    let names = names_of(alloc, &items, image.symbols.as_slice(), points.procedures())?;
-    Ok(Tracked { names })
+    let symbols = image.symbols.as_slice();
+    let names = names_of(alloc, width, &items, symbols, points.procedures())?;
+    Ok(names)
 }
 
 // The names of the items, or the first item that is no further name.
 fn names_of(
     alloc: Global,
+    width: Width,
     items: &[&str],
     symbols: &[Symbol],
     procedures: &[u64],
 ) -> Result<Items<Name>, TrackRefusal>
     requires { length items.now ≤ 16 }
-    ensures names { MatchResult result (AreNames (scope_of symbols.now procedures.now) (texts_of items.now))
-        (IsNamesRefusal (scope_of symbols.now procedures.now) (texts_of items.now)) }
-    ensures allowed { IfOk result (All IsName) }
+    ensures names { MatchResult result (AreNames (scope_by width symbols.now procedures.now) (texts_of items.now))
+        (IsNamesRefusal (scope_by width symbols.now procedures.now) (texts_of items.now)) }
+    ensures allowed { IfOk result (All (IsNameBy width)) }
 {
     let mut names = Items::new(alloc);
     for (i, item) in items.iter().enumerate() {
-        match further_name(item, i as u64 + 1, symbols, procedures, names.as_slice()) {
+        match further_name(
+            width,
+            item,
+            i as u64 + 1,
+            symbols,
+            procedures,
+            names.as_slice(),
+        ) {
             Ok(name) => names.push(name)?,
             Err(refusal) => return Err(refusal),
         }
@@ -63,17 +109,18 @@ fn names_of(
 
 // The name of the item at this place, which is to be in the procedures and none of the names before it.
 fn further_name(
+    width: Width,
     item: &str,
     place: u64,
     symbols: &[Symbol],
     procedures: &[u64],
     names: &[Name],
 ) -> Result<Name, TrackRefusal>
-    ensures name { MatchResult result (IsFurther (scope_of symbols.now procedures.now) names.now item.now)
-        (Breaks (scope_of symbols.now procedures.now) names.now item.now place) }
-    ensures allowed { IfOk result IsName }
+    ensures name { MatchResult result (IsFurther (scope_by width symbols.now procedures.now) names.now item.now)
+        (Breaks (scope_by width symbols.now procedures.now) names.now item.now place) }
+    ensures allowed { IfOk result (IsNameBy width) }
 {
-    let name = match name_of(item, place, symbols) {
+    let name = match name_of(width, item, place, symbols) {
         Ok(name) => name,
         Err(refusal) => return Err(refusal),
     };
@@ -102,11 +149,11 @@ fn is_listed(names: &[Name], name: Name) -> bool
 }
 
 // The name that the item at this place is.
-fn name_of(item: &str, place: u64, symbols: &[Symbol]) -> Result<Name, TrackRefusal>
-    ensures named { IfOk result (Names symbols.now item.now) }
-    ensures allowed { IfOk result IsName }
+fn name_of(width: Width, item: &str, place: u64, symbols: &[Symbol]) -> Result<Name, TrackRefusal>
+    ensures named { IfOk result (NamesBy width symbols.now item.now) }
+    ensures allowed { IfOk result (IsNameBy width) }
     ensures refused { IfErr result (λ refusal. (procedures : List ℕ) (names : List Name) →
-        Breaks (scope_of symbols.now procedures) names item.now place refusal) }
+        Breaks (scope_by width symbols.now procedures) names item.now place refusal) }
 {
     let Some((before, rest)) = parts(item) else {
         return match register_named(item) {
@@ -117,7 +164,7 @@ fn name_of(item: &str, place: u64, symbols: &[Symbol]) -> Result<Name, TrackRefu
     let Some(proc_entry) = place_of(before, symbols) else {
         return Err(TrackRefusal::UnknownName(place));
     };
-    match distance_of(rest) {
+    match distance_of(width, rest) {
         Some(below) => Ok(Name::Slot { proc_entry, below }),
         None => Err(TrackRefusal::BadSlot(place)),
     }
@@ -166,8 +213,8 @@ fn is_named(symbol: &Symbol, text: &str) -> bool
 }
 
 // The distance of a slot that a text is, as `-` and decimal digits.
-fn distance_of(text: &str) -> Option<u16>
-    ensures { MatchOption result ((n : ℕ) → IsDistance text.now n → IsAllowedBelow n → ⊥) (λ n. IsDistance text.now n × IsAllowedBelow n) }
+fn distance_of(width: Width, text: &str) -> Option<u16>
+    ensures { MatchOption result ((n : ℕ) → IsDistance text.now n → IsBelowBy width n → ⊥) (λ n. IsDistance text.now n × IsBelowBy width n) }
 {
     let Some(digits) = behind(text, '-') else {
         return None;
@@ -176,9 +223,20 @@ fn distance_of(text: &str) -> Option<u16>
         return None;
     }
     let below = number_of(digits, 10)?;
-    if (8..=2048).contains(&below) && below % 8 == 0 {
+    if is_below(width, below) {
         Some(below as u16)
     } else {
         None
+    }
+}
+
+// Whether a slot may stand so many bytes below.
+fn is_below(width: Width, below: u64) -> bool
+    ensures is { IsTrue result ↔ IsBelowBy width below }
+    ensures small { IsTrue result → below ≤ 2048 }
+{
+    match width {
+        Width::Wide => (8..=2048).contains(&below) && below % 8 == 0,
+        Width::Narrow => (4..=2048).contains(&below) && below % 4 == 0,
     }
 }

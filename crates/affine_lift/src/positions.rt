@@ -5,6 +5,7 @@ ghost use Rattle.affine_lift.specs.Lifting.{chooses, is_slot_of, positions_where
 
 use crate::chosen::Chosen;
 use crate::frame::is_touched;
+use crate::width::Width;
 use report_text::Name;
 
 /// The positions of the names that are meant, bit i for position i.
@@ -25,7 +26,7 @@ fn chooses(chosen: Chosen, name: &Name) -> bool
     match chosen {
         Chosen::Registers => matches!(name, Name::Register(_)),
         Chosen::SlotsOf(entry) => is_slot_of(entry, name),
-        Chosen::SlotsTouched(entry, store) => is_touched(entry, store, name),
+        Chosen::SlotsTouched(entry, store) => is_touched(Width::Wide, entry, store, name),
     }
 }
 

@@ -4,17 +4,19 @@ ghost use Rattle.std.specs.Prelude.{◌≡◌, ◌≤◌, ◌<◌, length, map, 
 ghost use Rattle.affine_prog.specs.Programs.{edge, IsWellFormed};
 ghost use Rattle.flow_points.specs.Walks.{most_points, point};
 ghost use Rattle.frame_offsets.specs.Frames.{AreOffsetsOf, offset_at};
-ghost use Rattle.affine_lift.specs.Effects.{effect_of};
-ghost use Rattle.affine_lift.specs.Lifting.{node_of, number_of, exit_of, proc_of, owners_in, edges_by, edges_along, offset_from, IsLifted, WritesSlots};
+ghost use Rattle.affine_lift.specs.declared.width.Width.TheVariants.{Narrow};
+ghost use Rattle.affine_lift.specs.Effects.{effect_by};
+ghost use Rattle.affine_lift.specs.Lifting.{node_of, number_of, exit_of, proc_of, owners_in, edges_by, edges_along_by, offset_from, IsLifted, IsLiftedBy, WritesSlots};
 
 use crate::chosen::Chosen;
 use crate::effect::{access_of, code_at, effect_of};
 use crate::frame::store_of;
 use crate::positions::positions_where;
+use crate::width::Width;
 use affine_prog::{Assign, Edge, Kind, Proc, Program};
 use flow_points::{Flow, Points};
 use frame_offsets::Offsets;
-use report_text::{Name, Tracked};
+use report_text::{Name, NarrowTracked, Tracked};
 use sqlite_items::Items;
 use std::alloc::{AllocError, Global};
 
@@ -30,11 +32,51 @@ pub fn lift(
     ensures lifted { IfOk result (λ program. IsLifted points.now tracked.now.names program) }
     ensures formed { IfOk result (λ program. IsWellFormed program) }
 {
+    lift_by(
+        alloc,
+        Width::Wide,
+        points,
+        offsets,
+        tracked.names.as_slice(),
+    )
+}
+
+/// The same with assignments to the low 32 bits of the names: the words of its states are meant modulo 2^32.
+pub fn lift_narrow(
+    alloc: Global,
+    points: &Points,
+    offsets: &Offsets,
+    tracked: &NarrowTracked,
+) -> Result<Program, AllocError>
+    requires { AreOffsetsOf points.now offsets.now }
+    ensures lifted { IfOk result (λ program. IsLiftedBy Narrow points.now tracked.now.names program) }
+    ensures formed { IfOk result (λ program. IsWellFormed program) }
+{
+    lift_by(
+        alloc,
+        Width::Narrow,
+        points,
+        offsets,
+        tracked.names.as_slice(),
+    )
+}
+
+fn lift_by(
+    alloc: Global,
+    width: Width,
+    points: &Points,
+    offsets: &Offsets,
+    names: &[Name],
+) -> Result<Program, AllocError>
+    requires few { length names.now ≤ 16 }
+    requires offsets { AreOffsetsOf points.now offsets.now }
+    ensures lifted { IfOk result (λ program. IsLiftedBy width points.now names.now program) }
+    ensures formed { IfOk result (λ program. IsWellFormed program) }
+{
     points.known();
-    let names = tracked.names.as_slice();
     let procs = procs_of(alloc, points, names)?;
     let owners = owners_in(alloc, points)?;
-    let edges = all_edges(alloc, points, offsets, names)?;
+    let edges = all_edges(alloc, width, points, offsets, names)?;
     Ok(Program {
         width: names.len() as u32,
         registers: positions_where(names, Chosen::Registers),
@@ -134,18 +176,19 @@ fn owners_in(alloc: Global, points: &Points) -> Result<Items<u32>, AllocError>
 // The edges from each point in turn.
 fn all_edges(
     alloc: Global,
+    width: Width,
     points: &Points,
     offsets: &Offsets,
     names: &[Name],
 ) -> Result<Items<Edge>, AllocError>
     requires few { length names.now ≤ 16 }
     requires offsets { AreOffsetsOf points.now offsets.now }
-    ensures { IfOk result (λ edges. edges ≡ edges_along points.now (offset_from points.now offsets.now) names.now points.now.points) }
+    ensures { IfOk result (λ edges. edges ≡ edges_along_by width points.now (offset_from points.now offsets.now) names.now points.now.points) }
 {
     points.known();
     let mut edges = Items::new(alloc);
     for i in 0..points.count() {
-        let more = edges_at(alloc, points, offsets, names, i)?;
+        let more = edges_at(alloc, width, points, offsets, names, i)?;
         edges.append(more)?;
     }
     Ok(edges)
@@ -154,6 +197,7 @@ fn all_edges(
 // The edges from a point.
 fn edges_at(
     alloc: Global,
+    width: Width,
     points: &Points,
     offsets: &Offsets,
     names: &[Name],
@@ -163,9 +207,9 @@ fn edges_at(
     requires point { i < length points.now.points }
     requires offsets { AreOffsetsOf points.now offsets.now }
     ensures { IfOk result (λ edges. IsSomeAnd (slice_get points.now.points i) (λ c.
-        edges ≡ edges_by points.now (effect_of names.now c (offset_at offsets.now i)) i c.point.proc_entry c.flow)) }
+        edges ≡ edges_by points.now (effect_by width names.now c (offset_at offsets.now i)) i c.point.proc_entry c.flow)) }
 {
-    let assigns = effect_of(alloc, points, offsets, names, i)?;
+    let assigns = effect_of(alloc, width, points, offsets, names, i)?;
     let code = code_at(points, i);
     edges_by(alloc, points, assigns, i, code.point.proc_entry, code.flow)
 }

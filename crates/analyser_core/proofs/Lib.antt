@@ -1,14 +1,14 @@
-mod RelationsTold
-mod PointsTold
+pub mod RelationsTold
+pub mod PointsTold
 mod LinesRead
 mod WordsTold
 mod Worked
 mod GivenBack
 mod RunsTold
-mod NodeStates
+pub mod NodeStates
 mod Counted
 mod InnerSoFar
-mod Keeping
+pub mod Keeping
 mod Telling
 mod Answered
 mod Passed

@@ -36,7 +36,7 @@ pub told_rows : (program : Program) (points : FlowPoints) (names : List Name) (t
     All (AreRowsAt names) told
 told_rows program points names told all k d below = (all k (get_or told k d) (slice_get-get_or told k d below)).rows
 
-one_item : {X : Type 0} {x y : X} → Some x ≡ Some y → x ≡ y
+pub one_item : {X : Type 0} {x y : X} → Some x ≡ Some y → x ≡ y
 one_item e = cc
 
 -- an item of two lists stands in the first, or in the second
@@ -66,7 +66,7 @@ told_more P told u point size all one k q e =
 pub one_longer : (told new : List PointRows) (point : PointRows) (u : ℕ) → new ≡ told ++ point ∷ [] → length told ≡ u → length new ≡ u + 1
 one_longer told new point u is size = omega (arith, ap length is, length-append told (point ∷ []), size)
 
-some_code : (points : List CodePoint) (u : ℕ) (P : CodePoint → Type 0) → IsSomeAnd (slice_get points u) P → (c : CodePoint) × (slice_get points u ≡ Some c) × P c
+pub some_code : (points : List CodePoint) (u : ℕ) (P : CodePoint → Type 0) → IsSomeAnd (slice_get points u) P → (c : CodePoint) × (slice_get points u ≡ Some c) × P c
 some_code points u P h = by (slice_get points u) h
   where
     by : (o : Option CodePoint) → IsSomeAnd o P → (c : CodePoint) × (o ≡ Some c) × P c

@@ -71,7 +71,7 @@ module _ (program : Program) (u : ℕ) (states : List (List ℕ)) (formed : IsWe
           some_of row (is.back row (generator 17 (Contains (row ∷ rest)) (basis_rows 17 (row ∷ rest) b) row (contains_first row rest)))
           (λ e. let z = ap lead e ∙ lead-zeros 17 in let i = b.0.within in omega arith)
 
-  is_reached : IsLeadingBasis 17 states → (HasZeroAlone 17 (Contains states) → ⊥) → IsReached program u
+  pub is_reached : IsLeadingBasis 17 states → (HasZeroAlone 17 (Contains states) → ⊥) → IsReached program u
   is_reached basis some =
       let s = some_state basis some in record { start = s.1.start; state = s.0; is_start = s.1.is_start; path = s.1.path }
 

@@ -1,5 +1,5 @@
 -- The states at all nodes, as they are made: those of the heads by the block program, and those of inner nodes one after the
--- other, each kept until the one inner node behind it has its own. No public contract cites these words.
+-- other, each kept until the one inner node behind it has its own.
 --
 --   states_by reached made number        the rows of the head of that number, or those made for an inner node
 --   states_in blocks reached inner v     the rows of node v, by the head's number or by a table of inner nodes

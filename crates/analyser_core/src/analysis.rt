@@ -31,7 +31,7 @@ use std::marker::Brand;
 use std::sync::ledger::{Blank, Ledger};
 
 /// A program may have this many heads, nodes where bases of maps are kept.
-pub(crate) const MOST_HEADS: u32 = 4096;
+pub const MOST_HEADS: u32 = 4096;
 
 /// What an analysis found: the report, and the certificates that it tells.
 #[derive(Debug, Drop)]

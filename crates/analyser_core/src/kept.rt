@@ -39,11 +39,7 @@ fn mark_before(program: &Program, blocks: &Blocks, table: &mut Vec<bool>, node: 
 }
 
 /// A table that marks each node that an inner one follows.
-pub(crate) fn followed(
-    alloc: Global,
-    program: &Program,
-    blocks: &Blocks,
-) -> Result<Vec<bool>, Memory>
+pub fn followed(alloc: Global, program: &Program, blocks: &Blocks) -> Result<Vec<bool>, Memory>
     requires formed { IsWellFormed program.now }
     requires blocks { AreBlocks program.now blocks.now }
     ensures { IfOk result (λ table. AreMarked program.now program.now.nodes table.items) }
@@ -91,7 +87,7 @@ fn wanted(alloc: Global, table: &[bool], made: Basis<17>, node: u32) -> Basis<17
 
 /// Keeps the states that were made for a node, if a node follows it, and drops those of the node before it, which no other
 /// node follows.
-pub(crate) fn keep(
+pub fn keep(
     alloc: Global,
     program: &Program,
     blocks: &Blocks,

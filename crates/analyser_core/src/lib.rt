@@ -6,7 +6,9 @@
 //! which of sp, ra and s0 to s11 it leaves as they were. What holds is defined over paths alone
 //! (`affine_prog`), and what the program is, over walks and instructions (`affine_lift`).
 //! [`image_of`] and [`points_of`] are its first steps. [`upgrade`] gives a report without certificates those of its
-//! points' procedures. Texts, files and commands are left to others.
+//! points' procedures. [`followed`], [`next_states`], [`states_at`] and [`keep`] go through a program's nodes with the states
+//! at each, and [`visible_at`] gives what is visible there, for others that tell of states. Texts, files and commands are
+//! left to others.
 //!
 //! ```text
 //! let analysis = analyse(alloc, &bytes, "sp,ra,0x10080:-8", &mut steps)?;
@@ -26,9 +28,12 @@ mod tell;
 mod upgrades;
 
 pub use accept::{image_of, points_of};
-pub use analysis::{Analysis, analyse, analyse_uncounted};
+pub use analysis::{Analysis, MOST_HEADS, analyse, analyse_uncounted};
 pub use cert_line::CertLine;
 pub use certify::word_of;
+pub use kept::{followed, keep};
 pub use laws::reports_tell_of_runs;
+pub use point_state::visible_at;
 pub use refusal::Refusal;
+pub use states::{next_states, states_at};
 pub use upgrades::{UpgradeRefusal, procedures_of, upgrade, upgrade_uncounted};

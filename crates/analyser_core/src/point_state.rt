@@ -1,11 +1,11 @@
 //! What is told of the states at a point.
 
 ghost use Rattle.std.specs.Prelude.{◌≡◌, ◌<◌, IsTrue, IfOk, IfSome, length};
-ghost use Rattle.row_modules.specs.Positions.{has};
-ghost use Rattle.affine_prog.specs.Programs.{IsWellFormed};
+ghost use Rattle.row_modules.specs.Positions.{has, with_constant};
+ghost use Rattle.affine_prog.specs.Programs.{IsWellFormed, owner_of, visible_in};
 ghost use Rattle.block_program.specs.Numbers.{AreBlocks};
 ghost use Rattle.analyser_core.specs.States.{HasStates};
-ghost use Rattle.analyser_core.specs.Told.{told_positions, Relates, RelatesAt, AreRelated, PassesOn};
+ghost use Rattle.analyser_core.specs.Told.{Relates, RelatesAt, AreRelated, PassesOn};
 
 use affine_prog::{Kind, Program};
 use block_program::Blocks;
@@ -57,11 +57,11 @@ fn passed_from(program: &Program, blocks: &Blocks, node: u32) -> Option<u32>
     }
 }
 
-// The positions that are visible at a node, and the constant's.
-fn visible_at(program: &Program, node: u32) -> u32
+/// The positions that are visible at a node, and the constant's.
+pub fn visible_at(program: &Program, node: u32) -> u32
     requires formed { IsWellFormed program.now }
     requires node { node < program.now.nodes }
-    ensures { result ≡ told_positions program.now node }
+    ensures { result ≡ with_constant (visible_in program.now (owner_of program.now node)) }
 {
     let owner = program.proc_of(node) as usize;
     let slots = program.procs.as_slice()[owner].slots;

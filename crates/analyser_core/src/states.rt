@@ -17,7 +17,7 @@ use std::alloc::Global;
 use std::sync::ledger::Ledger;
 
 /// A basis of the states at a node: the block program's at a head, and the one that was made at an inner node.
-pub(crate) fn states_at<'a>(
+pub fn states_at<'a>(
     blocks: &Blocks,
     reached: &'a Reach,
     made: &'a Basis<17>,
@@ -61,7 +61,7 @@ fn push_into<L: Ledger>(
 }
 
 /// A basis of the states at a node where it is inner, from those that are kept, and one without rows where it is a head.
-pub(crate) fn next_states<L: Ledger>(
+pub fn next_states<L: Ledger>(
     alloc: Global,
     program: &Program,
     blocks: &Blocks,

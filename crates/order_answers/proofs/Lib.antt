@@ -3,3 +3,4 @@ mod LinesTold
 mod RowsTold
 mod OutOfRange
 mod OffsetsFound
+mod NarrowTold

@@ -5,3 +5,4 @@ pub mod FileRefusals
 pub mod UpgradeRefusals
 pub mod ReportAnswers
 pub mod Answers
+pub mod NarrowAnswers

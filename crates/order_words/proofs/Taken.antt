@@ -8,7 +8,7 @@ use Rattle.order_words.specs.Words.{TakesNumber, TakesTexts}
 
 pub texts_taken : (file list report : List ℕ) → TakesTexts file list report
 unfolding file_command track_command report_command is_taken given_in walk_fault defaults_fault walked
-texts_taken file list report = record { analyse = refl; cert = refl; code = refl; upgrade = refl }
+texts_taken file list report = record { analyse = refl; cert = refl; code = refl; upgrade = refl; narrow = refl }
 
 pub number_taken : (text : List ℕ) (n : ℕ) (file list report regs : List ℕ) → count_of text ≡ Some n → TakesNumber text n file list report regs
 unfolding track_command report_command run_command is_taken given_in walk_fault defaults_fault walked

@@ -16,7 +16,7 @@
 --   AreUsage               so they are for all texts; nor are no words, and words of `list` that ask for help or a version or begin
 --                          with `-`
 use Rattle.std.specs.Prelude.{◌≡◌, ◌≢◌, ℕ, List, [], ◌∷◌, ◌++◌, codes, Some, None}
-use Rattle.orders.specs.Orders.{Usage, Analyse, Certify, ListCode, CheckRun, Generate, Upgrade, count_of, order_of}
+use Rattle.orders.specs.Orders.{Usage, Analyse, Certify, ListCode, CheckRun, Generate, Upgrade, Narrow, count_of, order_of}
 
 abbrev pub valued : List ℕ → List ℕ → List ℕ
 valued name text = codes "--" ++ name ++ codes "=" ++ text
@@ -26,6 +26,7 @@ pub record TakesTexts (file list report : List ℕ) : Type 0 where
   pub cert : order_of (codes "cert" ∷ valued (codes "track") list ∷ codes "--" ∷ file ∷ []) ≡ Certify file list
   pub code : order_of (codes "list" ∷ codes "--" ∷ file ∷ []) ≡ ListCode file
   pub upgrade : order_of (codes "upgrade" ∷ codes "--" ∷ file ∷ report ∷ []) ≡ Upgrade file report
+  pub narrow : order_of (codes "narrow" ∷ valued (codes "track") list ∷ codes "--" ∷ file ∷ []) ≡ Narrow file list
 
 abbrev pub TextsAreTaken : Type 0
 TextsAreTaken = (file list report : List ℕ) → TakesTexts file list report

@@ -58,8 +58,8 @@ differs xs ys other = go (bytes_eq xs ys) (bytes_eq-Decides xs ys)
 
 pub no_order : (command : List ℕ) (words : List (List ℕ)) → (command ≡ codes "analyse" → ⊥) → (command ≡ codes "cert" → ⊥) →
     (command ≡ codes "list" → ⊥) → (command ≡ codes "gen" → ⊥) → (command ≡ codes "run" → ⊥) → (command ≡ codes "upgrade" → ⊥) →
-    Usage ≡ order_of (command ∷ words)
-no_order command words a c l g r u =
+    (command ≡ codes "narrow" → ⊥) → Usage ≡ order_of (command ∷ words)
+no_order command words a c l g r u n =
     rw (
       differs command (codes "analyse") a,
       differs command (codes "cert") c,
@@ -67,4 +67,5 @@ no_order command words a c l g r u =
       differs command (codes "gen") g,
       differs command (codes "run") r,
       differs command (codes "upgrade") u,
+      differs command (codes "narrow") n,
     ) refl

@@ -11,6 +11,7 @@
 --   CheckRun file report steps regs   `run FILE REPORT --steps N`, and with `--regs R`, where regs is R
 --   Generate n list        `gen N --track LIST`
 --   Upgrade file report    `upgrade FILE REPORT`
+--   Narrow file list       `narrow FILE --track LIST`
 --   texts_of words         the bytes of each word
 --   position name          the rule of a required position of this name
 --   option name            the rule of a required option `--name`, which takes one value and may stand once
@@ -53,6 +54,7 @@ pub data Order : Type 0 where
   CheckRun : (file report : List ℕ) (steps : ℕ) (regs : Option (List ℕ)) → Order
   Generate : (n : ℕ) (list : List ℕ) → Order
   Upgrade : (file report : List ℕ) → Order
+  Narrow : (file list : List ℕ) → Order
 
 abbrev pub texts_of : List (String Global) → List (List ℕ)
 texts_of words = map (λ w. string_bytes w) words
@@ -136,6 +138,8 @@ order_of (command ∷ words) =
     (given_in (run_command command) words (codes "regs")))
     else if bytes_eq command (codes "upgrade")
     then when_taken (report_command command) words (λ value. Upgrade (value (codes "file")) (value (codes "report")))
+    else if bytes_eq command (codes "narrow")
+    then when_taken (track_command command (codes "file")) words (λ value. Narrow (value (codes "file")) (value (codes "track")))
     else Usage
 
 abbrev pub HasFewSteps : Order → Type 0

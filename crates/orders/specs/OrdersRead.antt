@@ -11,7 +11,7 @@ use Rattle.clap.specs.declared.parser.matches.ArgMatches.{ArgMatches}
 use Rattle.orders.specs.Orders as spec
 use Rattle.orders.specs.Orders.{is_taken, given_in}
 use Rattle.orders.specs.declared.Order.{Order}
-use Rattle.orders.specs.declared.Order.TheVariants.{Usage, Analyse, Certify, ListCode, CheckRun, Generate, Upgrade}
+use Rattle.orders.specs.declared.Order.TheVariants.{Usage, Analyse, Certify, ListCode, CheckRun, Generate, Upgrade, Narrow}
 
 abbrev pub order_in : Order → spec.Order
 order_in Usage = spec.Usage
@@ -21,6 +21,7 @@ order_in (ListCode file) = spec.ListCode file.now
 order_in (CheckRun file report steps regs) = spec.CheckRun file.now report.now steps (option_map (λ r. r.now) regs)
 order_in (Generate n list) = spec.Generate n list.now
 order_in (Upgrade file report) = spec.Upgrade file.now report.now
+order_in (Narrow file list) = spec.Narrow file.now list.now
 
 unfoldable pub given_read : ArgMatches → List ℕ → Option (List ℕ)
 given_read parse name = first_of name (rows_of (found_of parse))

@@ -41,6 +41,7 @@ fn order_named<'a>(
         "gen" => generate_order(alloc, words),
         "run" => run_order(alloc, words),
         "upgrade" => upgrade_order(alloc, words),
+        "narrow" => narrow_order(alloc, words),
         _ => Ok(Order::Usage),
     }
 }
@@ -119,6 +120,18 @@ fn upgrade_order<'a>(alloc: Global, words: &'a [String]) -> Result<Order<'a>, Al
         Some(matches) => Order::Upgrade {
             file: value_of(&matches, "file"),
             report: value_of(&matches, "report"),
+        },
+        None => Order::Usage,
+    })
+}
+
+fn narrow_order<'a>(alloc: Global, words: &'a [String]) -> Result<Order<'a>, AllocError>
+    ensures { IfOk result (λ order. order_in order ≡ order_of (codes "narrow" ∷ texts_of words.now)) }
+{
+    Ok(match parse_track(alloc, "narrow", "file", words)? {
+        Some(matches) => Order::Narrow {
+            file: value_of(&matches, "file"),
+            list: value_of(&matches, "track"),
         },
         None => Order::Usage,
     })

@@ -43,4 +43,8 @@ pub enum Order<'a> {
         file: &'a str,
         report: &'a str,
     },
+    Narrow {
+        file: &'a str,
+        list: &'a str,
+    },
 }

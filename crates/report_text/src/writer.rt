@@ -2,7 +2,7 @@
 
 ghost use Rattle.std.specs.Prelude.{◌≡◌, ◌==◌, ◌≤◌, ◌++◌, length, All, true, not, position, IfOk, IsTrue, OnOk, codes};
 ghost use Rattle.number_text.specs.Numerals.{hex};
-ghost use Rattle.report_text.specs.Names.{IsName, is_certified};
+ghost use Rattle.report_text.specs.Names.{HasText, is_certified};
 ghost use Rattle.report_text.specs.Text.{nl, name_text, names_text, further_names_text, sign, magnitude, term_text, word_text, terms_text, constant_text, rel_text, rows_text, point_text, cert_word_text, certified_text, cert_text, opening_text, certs_text, own_count, points_text, text_of};
 
 use crate::certs::{CertWord, ReportCert};
@@ -33,7 +33,7 @@ pub fn write_report(alloc: Global, report: &Report) -> Result<Vec<u8>, AllocErro
 
 /// Appends the names, with commas between them.
 pub fn push_names(text: &mut Vec<u8>, names: &[Name]) -> Result<(), AllocError>
-    requires { All IsName names.now }
+    requires { All HasText names.now }
     ensures { OnOk result (text.new.items ≡ text.old.items ++ names_text names.now) }
 {
     match names {
@@ -46,7 +46,7 @@ pub fn push_names(text: &mut Vec<u8>, names: &[Name]) -> Result<(), AllocError>
 }
 
 fn push_further_names(text: &mut Vec<u8>, names: &[Name]) -> Result<(), AllocError>
-    requires { All IsName names.now }
+    requires { All HasText names.now }
     ensures { OnOk result (text.new.items ≡ text.old.items ++ further_names_text names.now) }
 {
     for name in names {
@@ -57,7 +57,7 @@ fn push_further_names(text: &mut Vec<u8>, names: &[Name]) -> Result<(), AllocErr
 }
 
 fn push_name(text: &mut Vec<u8>, name: Name) -> Result<(), AllocError>
-    requires { IsName name }
+    requires { HasText name }
     ensures { OnOk result (text.new.items ≡ text.old.items ++ name_text name) }
 {
     match name {
@@ -70,13 +70,15 @@ fn push_name(text: &mut Vec<u8>, name: Name) -> Result<(), AllocError>
     }
 }
 
-fn push_points(
+/// Appends the points, each behind its procedure's line where it begins one, with certificates in front of each
+/// procedure's first point.
+pub fn push_points(
     text: &mut Vec<u8>,
     names: &[Name],
     certs: &[ReportCert],
     points: &[PointRows],
 ) -> Result<(), AllocError>
-    requires names { All IsName names.now }
+    requires names { All HasText names.now }
     requires few { length names.now ≤ 16 }
     ensures { OnOk result (text.new.items ≡ text.old.items ++ points_text names.now certs.now None points.now) }
 {
@@ -163,7 +165,7 @@ fn cert_word(word: CertWord) -> &'static str
 }
 
 fn push_point(text: &mut Vec<u8>, names: &[Name], point: &PointRows) -> Result<(), AllocError>
-    requires names { All IsName names.now }
+    requires names { All HasText names.now }
     requires few { length names.now ≤ 16 }
     ensures { OnOk result (text.new.items ≡ text.old.items ++ point_text names.now point.now) }
 {
@@ -183,7 +185,7 @@ fn push_line(text: &mut Vec<u8>, word: &[u8], address: u64) -> Result<(), AllocE
 }
 
 fn push_rows(text: &mut Vec<u8>, names: &[Name], rows: &[Row<17>]) -> Result<(), AllocError>
-    requires names { All IsName names.now }
+    requires names { All HasText names.now }
     requires few { length names.now ≤ 16 }
     ensures { OnOk result (text.new.items ≡ text.old.items ++ rows_text names.now rows.now) }
 {
@@ -197,7 +199,7 @@ fn push_rows(text: &mut Vec<u8>, names: &[Name], rows: &[Row<17>]) -> Result<(),
 }
 
 fn push_rel(text: &mut Vec<u8>, names: &[Name], row: &Row<17>) -> Result<(), AllocError>
-    requires names { All IsName names.now }
+    requires names { All HasText names.now }
     requires few { length names.now ≤ 16 }
     ensures { OnOk result (text.new.items ≡ text.old.items ++ rel_text names.now row.now) }
 {
@@ -208,7 +210,7 @@ fn push_rel(text: &mut Vec<u8>, names: &[Name], row: &Row<17>) -> Result<(), All
 }
 
 fn push_terms(text: &mut Vec<u8>, names: &[Name], row: &Row<17>) -> Result<(), AllocError>
-    requires names { All IsName names.now }
+    requires names { All HasText names.now }
     requires few { length names.now ≤ 16 }
     ensures { OnOk result (text.new.items ≡ text.old.items ++ terms_text true names.now row.now) }
 {
@@ -223,7 +225,7 @@ fn push_terms(text: &mut Vec<u8>, names: &[Name], row: &Row<17>) -> Result<(), A
 
 // The term of a word that isn't 0, behind its sign unless it leads the row.
 fn push_word(text: &mut Vec<u8>, leads: bool, name: Name, word: u64) -> Result<(), AllocError>
-    requires { IsName name }
+    requires { HasText name }
     ensures { OnOk result (text.new.items ≡ text.old.items ++ word_text leads name word) }
 {
     if word == 0 {
@@ -246,7 +248,7 @@ fn push_constant(text: &mut Vec<u8>, word: u64) -> Result<(), AllocError>
 }
 
 fn push_term(text: &mut Vec<u8>, name: Name, word: u64) -> Result<(), AllocError>
-    requires { IsName name }
+    requires { HasText name }
     ensures { OnOk result (text.new.items ≡ text.old.items ++ term_text name word) }
 {
     push_dec(text, magnitude_of(word))?;

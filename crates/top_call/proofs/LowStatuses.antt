@@ -11,6 +11,8 @@ use Rattle.call_ends.proofs.Laws.{IsLow, IsPlain}
 use Rattle.order_answers.specs.UpgradeRefusals.{upgrade_status}
 use Rattle.order_answers.specs.Answers.{IsAnswer, refused, no_list, crowded, analysed, IsListing, listed, IsGenAnswer, out_of_range, generated}
 use Rattle.order_answers.specs.FileRefusals.{IsRefused, too_long, no_image, bad_flow}
+use Rattle.order_answers.specs.NarrowAnswers as narrow
+use Rattle.order_answers.specs.NarrowAnswers.{AnswersNarrow}
 use Rattle.order_answers.specs.ReportAnswers.{IsUnread, refused_file, too_long_report, IsRun, unread, read, no_report, not_upgraded, upgraded, IsUpgrade}
 use Rattle.order_answers.specs.GenText.{gen_text}
 use Rattle.top_call.specs.Answers.{IsUsage}
@@ -25,6 +27,12 @@ answer_low told list bytes status text (refused status' text' is) = let low = re
 answer_low told list bytes status text (no_list status' text' image points refusal short of has why other is line) = omega arith
 answer_low told list bytes status text (crowded status' text' short many is line) = omega arith
 answer_low told list bytes status text (analysed status' text' report certs short what is line) = omega arith
+
+pub narrow_low : (list bytes : List ℕ) → IsLow (AnswersNarrow list bytes)
+narrow_low list bytes status text (narrow.refused status' text' is) = let low = refused_status bytes status text is in omega arith
+narrow_low list bytes status text (narrow.no_list status' text' image points refusal short of has why other is line) = omega arith
+narrow_low list bytes status text (narrow.crowded status' text' short many is line) = omega arith
+narrow_low list bytes status text (narrow.analysed status' text' report short what is line) = omega arith
 
 pub gen_low : (n : ℕ) (list : List ℕ) → IsLow (IsGenAnswer n list)
 gen_low n list status text (out_of_range status' text' out is line) = omega arith

@@ -1,13 +1,14 @@
 -- Calls over files, or over a sink, whose counts don't rise.
 use Rattle.std.proofs.Common.{◌≢◌, ℕ, inl, inr, List, Option, arith}
 use Rattle.outside.specs.Counts.{HasRisen}
-use Rattle.orders.specs.Orders.{Order, Usage, Analyse, Certify, ListCode, CheckRun, Generate, Upgrade}
+use Rattle.orders.specs.Orders.{Order, Usage, Analyse, Certify, ListCode, CheckRun, Generate, Upgrade, Narrow}
 use Rattle.call_ends.specs.Calls.{Call}
 use Rattle.call_ends.proofs.Laws.{IsPlain, both_plain, low_plain, no_read, no_write, over_plain, said_whole, said_within}
 use Rattle.order_answers.specs.Answers.{report_text, IsAnswer, IsListing, IsGenAnswer}
 use Rattle.order_answers.specs.CertsText.{certs_text}
+use Rattle.order_answers.specs.NarrowAnswers.{AnswersNarrow}
 use Rattle.top_call.specs.Answers.{IsUsage, IsReadFault, EndsOverBoth, no_registers, run, no_start, IsCarriedOut}
-use Rattle.top_call.proofs.LowStatuses.{answer_low, gen_low, listing_low, usage_low, run_plain, upgrade_plain}
+use Rattle.top_call.proofs.LowStatuses.{answer_low, gen_low, listing_low, narrow_low, usage_low, run_plain, upgrade_plain}
 
 no_fault : (contents : Option (List ℕ)) (Rose ReportRose : Type 0) → (Rose → ⊥) → (ReportRose → ⊥) → IsReadFault contents Rose ReportRose → ⊥
 no_fault contents Rose ReportRose still still_too (inl rose) = still rose
@@ -45,6 +46,8 @@ no_read_fault (CheckRun file report steps regs) c answer still (no_start said) =
 no_read_fault (Generate n list) c answer still is =
     no_read (IsGenAnswer n list) ⊥ c answer (low_plain (IsGenAnswer n list) (gen_low n list)) (λ never. never) is
 no_read_fault (Upgrade file report) c answer still is = no_read_both file report _ c answer still upgrade_plain is
+no_read_fault (Narrow file list) c answer still is =
+    no_read _ _ c answer (over_plain (c.contents file) (AnswersNarrow list) (narrow_low list)) (still file) is
 
 -- where the sink's count doesn't
 pub no_write_fault : (order : Order) (c : Call) (answer : ℕ) → (HasRisen c.sink_before c.sink_after → ⊥) → IsCarriedOut order c answer → answer ≢ 4
@@ -62,3 +65,5 @@ no_write_fault (CheckRun file report steps regs) c answer still (no_start said) 
 no_write_fault (Generate n list) c answer still is =
     no_write (IsGenAnswer n list) ⊥ c answer (low_plain (IsGenAnswer n list) (gen_low n list)) still is
 no_write_fault (Upgrade file report) c answer still is = no_write_both file report _ c answer still upgrade_plain is
+no_write_fault (Narrow file list) c answer still is =
+    no_write _ _ c answer (over_plain (c.contents file) (AnswersNarrow list) (narrow_low list)) still is

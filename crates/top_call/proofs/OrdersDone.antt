@@ -7,13 +7,16 @@ use Rattle.analyser_core.specs.declared.cert_line.CertLine.{CertLine}
 use Rattle.analyser_core.specs.declared.refusal.Refusal.{Refusal}
 use Rattle.analyser_core.specs.declared.refusal.Refusal.TheVariants.{Elf, Flow, Track, Heads}
 use Rattle.report_text.specs.declared.reports.Report.{Report}
-use Rattle.orders.specs.Orders.{Order, Usage, Analyse, Certify, ListCode, CheckRun, Generate, Upgrade}
+use Rattle.orders.specs.Orders.{Order, Usage, Analyse, Certify, ListCode, CheckRun, Generate, Upgrade, Narrow}
 use Rattle.start_registers.specs.Settings.{IsStart}
 use Rattle.call_ends.specs.Calls.{Call, IsAnswerOver}
 use Rattle.call_ends.proofs.Laws.{ends_weaker}
 use Rattle.order_answers.specs.Answers.{report_text, IsAnswer, refused, no_list, crowded, analysed, IsListing, listed, IsGenAnswer, out_of_range, generated}
 use Rattle.order_answers.specs.FileRefusals.{IsListRefusal, too_long, no_image, bad_flow}
 use Rattle.order_answers.specs.CertsText.{certs_text}
+use Rattle.order_answers.specs.NarrowAnswers as narrow
+use Rattle.order_answers.specs.NarrowAnswers.{AnswersNarrow}
+use Rattle.narrow_words.specs.Accepted.{IsNarrowRefusal}
 use Rattle.order_answers.specs.GenText.{gen_text}
 use Rattle.order_answers.specs.ReportAnswers.{IsRun, IsUpgrade}
 use Rattle.top_call.specs.Answers.{no_registers, run, no_start, IsCarriedOut}
@@ -33,6 +36,19 @@ answer_done told list bytes status text free (no_list status' text' image points
 answer_done told list bytes status text free (crowded status' text' short many is line) =
     let memory = free.only_memory (Heads most_heads) (refl, many) in absurd (cc)
 answer_done told list bytes status text free (analysed status' text' report certs short what is line) = is
+
+narrow_done : (list bytes : List ℕ) (status : ℕ) (text : List ℕ) → IsUnrefused (IsNarrowRefusal bytes list) bytes →
+    AnswersNarrow list bytes status text → status ≡ 0
+narrow_done list bytes status text free (narrow.refused status' text' (too_long s t longer is line)) = let short = free.short in omega arith
+narrow_done list bytes status text free (narrow.refused status' text' (no_image s t refusal short why is line)) =
+    let memory = free.only_memory (Elf refusal) why in absurd (cc)
+narrow_done list bytes status text free (narrow.refused status' text' (bad_flow s t image refusal short of why is line)) =
+    let memory = free.only_memory (Flow refusal) (image, of, why) in absurd (cc)
+narrow_done list bytes status text free (narrow.no_list status' text' image points refusal short of has why other is line) =
+    let memory = free.only_memory (Track refusal) (image, points, of, has, why, other) in absurd (cc)
+narrow_done list bytes status text free (narrow.crowded status' text' short many is line) =
+    let memory = free.only_memory (Heads most_heads) (refl, many) in absurd (cc)
+narrow_done list bytes status text free (narrow.analysed status' text' report short what is line) = is
 
 listing_done : (bytes : List ℕ) (status : ℕ) (text : List ℕ) → IsUnrefused (IsListRefusal bytes) bytes → IsListing bytes status text → status ≡ 0
 listing_done bytes status text free (refused status' text' (too_long s t longer is line)) = let short = free.short in omega arith
@@ -69,6 +85,8 @@ order_done (Analyse file list) c answer free is =
     ends_weaker _ _ _ c answer (over_done (c.contents file) (λ bytes. IsRefusal bytes list) (IsAnswer report_text list) (answer_done report_text list) free) is
 order_done (Certify file list) c answer free is =
     ends_weaker _ _ _ c answer (over_done (c.contents file) (λ bytes. IsRefusal bytes list) (IsAnswer certs_text list) (answer_done certs_text list) free) is
+order_done (Narrow file list) c answer free is =
+    ends_weaker _ _ _ c answer (over_done (c.contents file) (λ bytes. IsNarrowRefusal bytes list) (AnswersNarrow list) (narrow_done list) free) is
 order_done (ListCode file) c answer free is =
     ends_weaker _ _ _ c answer (over_done (c.contents file) IsListRefusal IsListing listing_done free) is
 order_done (CheckRun file report steps regs) c answer ((start, starts), free) (no_registers none is) = absurd (one_start regs start starts none)

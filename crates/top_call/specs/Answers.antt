@@ -15,17 +15,19 @@ use Rattle.elf_image.specs.declared.image.Image.{Image}
 use Rattle.flow_points.specs.PointLists.{FlowPoints}
 use Rattle.report_text.specs.Text.{nl}
 use Rattle.start_registers.specs.Settings.{IsStart}
-use Rattle.orders.specs.Orders.{Order, Usage, Analyse, Certify, ListCode, CheckRun, Generate, Upgrade}
+use Rattle.orders.specs.Orders.{Order, Usage, Analyse, Certify, ListCode, CheckRun, Generate, Upgrade, Narrow}
 use Rattle.call_ends.specs.Calls.{Call, Ends, EndsOver, IsOverBoth, SaysIn, no_memory_text}
 use Rattle.order_answers.specs.Answers.{report_text, IsAnswer, IsListing, IsGenAnswer}
 use Rattle.order_answers.specs.CertsText.{certs_text}
 use Rattle.order_answers.specs.FileRefusals.{IsCode}
+use Rattle.order_answers.specs.NarrowAnswers.{AnswersNarrow}
 use Rattle.order_answers.specs.ReportAnswers.{IsRun, IsUpgrade}
 
 abbrev pub usage_text : List ℕ
 usage_text =
     codes "usage:" ++ nl ++ codes "analyse FILE --track LIST" ++ nl ++ codes "cert FILE --track LIST" ++ nl ++ codes "list FILE" ++ nl
     ++ codes "run FILE REPORT --steps N [--regs R]" ++ nl ++ codes "gen N --track LIST" ++ nl ++ codes "upgrade FILE REPORT" ++ nl
+    ++ codes "narrow FILE --track LIST" ++ nl
 
 pub record IsUsage (status : ℕ) (text : List ℕ) : Type 0 where
   pub status_is : status ≡ 2
@@ -58,3 +60,4 @@ IsCarriedOut (ListCode file) c answer = EndsOver file IsListing c answer
 IsCarriedOut (CheckRun file report steps regs) c answer = IsRunOrder file report steps regs c answer
 IsCarriedOut (Generate n list) c answer = Ends (IsGenAnswer n list) ⊥ c answer
 IsCarriedOut (Upgrade file report) c answer = EndsOverBoth file report IsUpgrade c answer
+IsCarriedOut (Narrow file list) c answer = EndsOver file (AnswersNarrow list) c answer

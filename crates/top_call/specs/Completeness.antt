@@ -31,13 +31,15 @@ use Rattle.analyser_core.specs.Heads.{HasManyHeads}
 use Rattle.analyser_core.specs.declared.refusal.Refusal.{Refusal}
 use Rattle.analyser_core.specs.declared.refusal.Refusal.TheVariants.{Memory}
 use Rattle.start_registers.specs.Settings.{IsStart}
-use Rattle.orders.specs.Orders.{Order, Usage, Analyse, Certify, ListCode, CheckRun, Generate, Upgrade}
+use Rattle.orders.specs.Orders.{Order, Usage, Analyse, Certify, ListCode, CheckRun, Generate, Upgrade, Narrow}
 use Rattle.refusal_lines.specs.Lines.{most_report_bytes}
 use Rattle.call_ends.specs.Calls.{Call, SaysIn, Ends, EndsOver, no_memory_text}
 use Rattle.order_answers.specs.FileRefusals.{IsCode, IsListRefusal}
 use Rattle.order_answers.specs.ReportAnswers.{IsRun, IsUpgrade}
 use Rattle.order_answers.specs.Answers.{IsAnswer, IsGenAnswer, IsListing, report_text}
 use Rattle.order_answers.specs.CertsText.{certs_text}
+use Rattle.order_answers.specs.NarrowAnswers.{AnswersNarrow}
+use Rattle.narrow_words.specs.Accepted.{IsNarrowRefusal}
 use Rattle.top_call.specs.Answers.{EndsOverBoth}
 
 pub record IsUnrefused (IsCause : Refusal → Type 0) (bytes : List ℕ) : Type 0 where
@@ -77,6 +79,7 @@ IsUnhindered (Generate n list) c = IsInRange n × ((bytes : List ℕ) → IsGene
 IsUnhindered (Upgrade file report) c =
     HasContents (c.contents file) (λ bytes. IsUnrefused (IsListRefusal bytes) bytes
     × HasContents (c.contents report) (λ told. (old : Report) × IsReportFor bytes told old × IsOld bytes old))
+IsUnhindered (Narrow file list) c = HasContents (c.contents file) (λ bytes. IsUnrefused (IsNarrowRefusal bytes list) bytes)
 
 abbrev pub Done : (ℕ → List ℕ → Type 0) → ℕ → List ℕ → Type 0
 Done Is status text = Is status text × (status ≡ 0)
@@ -94,3 +97,4 @@ IsDone (CheckRun file report steps regs) c answer =
     ⊎ SaysIn c 5 no_memory_text answer
 IsDone (Generate n list) c answer = Ends (Done (IsGenAnswer n list)) ⊥ c answer
 IsDone (Upgrade file report) c answer = EndsOverBoth file report (λ bytes told. Done (IsUpgrade bytes told)) c answer
+IsDone (Narrow file list) c answer = EndsOver file (λ bytes. Done (AnswersNarrow list bytes)) c answer

@@ -15,7 +15,7 @@ ghost use Rattle.call_ends.specs.Calls.{Says, SaysIn, call, no_memory_text};
 ghost use Rattle.top_call.specs.Answers.{IsCarriedOut, IsRunOrder, usage_text};
 ghost use Rattle.top_call.specs.Completeness.{IsUnhindered, IsDone};
 
-use crate::file_orders::{reply_to_analyse, reply_to_cert, reply_to_list};
+use crate::file_orders::{reply_to_analyse, reply_to_cert, reply_to_list, reply_to_narrow};
 use crate::report_orders::{reply_to_run, reply_to_upgrade};
 use analyser_core::reports_tell_of_runs;
 use call_ends::{Reply, reply_of, say, say_reply};
@@ -30,7 +30,7 @@ use std::io::ErrorKind;
 use std::process::ExitCode;
 
 const USAGE: &[u8] =
-    b"usage:\nanalyse FILE --track LIST\ncert FILE --track LIST\nlist FILE\nrun FILE REPORT --steps N [--regs R]\ngen N --track LIST\nupgrade FILE REPORT\n";
+    b"usage:\nanalyse FILE --track LIST\ncert FILE --track LIST\nlist FILE\nrun FILE REPORT --steps N [--regs R]\ngen N --track LIST\nupgrade FILE REPORT\nnarrow FILE --track LIST\n";
 
 /// Carries out the order of the arguments, those after the program's name: reads the file that it
 /// names, puts its one text into the sink, and gives the exit status. A run is checked under these four
@@ -138,6 +138,7 @@ fn carry_out<F: Files, K: Sink>(
         Order::Upgrade { file, report } => {
             say_reply(out, reply_to_upgrade(alloc, files, file, report))
         }
+        Order::Narrow { file, list } => say_reply(out, reply_to_narrow(alloc, files, file, list)),
     }
 }
 

@@ -5,9 +5,10 @@ ghost use Rattle.call_ends.specs.Calls.{IsAnswerOver};
 ghost use Rattle.call_ends.specs.Replies.{AnswersWith};
 ghost use Rattle.order_answers.specs.Answers.{report_text, IsAnswer, IsListing};
 ghost use Rattle.order_answers.specs.CertsText.{certs_text};
+ghost use Rattle.order_answers.specs.NarrowAnswers.{AnswersNarrow};
 
 use call_ends::{Reply, file_bytes, reply_of};
-use order_answers::{answer_to_analyse, answer_to_cert, answer_to_list};
+use order_answers::{answer_to_analyse, answer_to_cert, answer_to_list, answer_to_narrow};
 use outside::Files;
 use std::alloc::Global;
 
@@ -40,6 +41,17 @@ pub fn reply_to_list<F: Files>(alloc: Global, files: &mut F, file: &str) -> Repl
 {
     match file_bytes(alloc, files, file) {
         Ok(bytes) => reply_of(answer_to_list(alloc, &bytes)),
+        Err(reply) => reply,
+    }
+}
+
+/// What `narrow FILE --track LIST` gets.
+pub fn reply_to_narrow<F: Files>(alloc: Global, files: &mut F, file: &str, list: &str) -> Reply
+    ensures { AnswersWith (IsAnswerOver (F.contents files.old file.now) (AnswersNarrow list.now))
+        (HasRisen (F.faults files.old file.now) (F.faults files.new file.now)) result }
+{
+    match file_bytes(alloc, files, file) {
+        Ok(bytes) => reply_of(answer_to_narrow(alloc, &bytes, list)),
         Err(reply) => reply,
     }
 }

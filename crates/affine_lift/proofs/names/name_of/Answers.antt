@@ -37,4 +37,4 @@ returns-in-None-distance_of-clause-refused c = λ procedures names.
     let place = c.in-Some-place_of.ensures in
     let text = slot_text c.args.symbols.now c.args.item.now c.in-Some.before.now rest p parts.0 parts.1 parts.2 place in
     bad_slot (by_place p rest text)
-    (no_distance c.args.symbols.now c.args.item.now p rest text c.in-None-distance_of.ensures) refl
+    (no_distance c.args.width c.args.symbols.now c.args.item.now p rest text c.in-None-distance_of.ensures) refl

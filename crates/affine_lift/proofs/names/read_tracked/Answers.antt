@@ -1,32 +1,4 @@
-use Rattle.std.proofs.Common.{◌≡◌, length, ap, arith}
-use Rattle.std.proofs.lemmas.List.Splits.{length-slice_split}
-use Rattle.std.proofs.lemmas.Slice.Zip.{AllZip-long}
-use Rattle.numeral_read.specs.Lists.{is_comma}
-use Rattle.affine_lift.specs.Tracking.{Names}
-use Rattle.affine_lift.proofs.ItemsNamed.{length-texts}
 use Rattle.affine_lift.proofs.names.read_tracked.Goals as goal
-use Rattle.affine_lift.proofs.names.read_tracked.Goals.{In_ok-names}
-
--- there is a name for each item
-each : (c : In_ok-names) → length c.in_ok-names.names ≡ length c.in_ok-items.items.items
-each c =
-    let zip = AllZip-long (Names c.as_slice.result.now) _ c.in_ok-names.names c.in_ok-names.ensures.names.named in
-    let texts = length-texts c.deref.result.now in
-    let same = ap length c.deref.ensures.value in
-    omega arith
-
-pub invariant_of-result-clause-some : goal.invariant_of-result-clause-some
-invariant_of-result-clause-some c =
-    let names = each c in
-    let parts = length-slice_split is_comma c.args.text.now in
-    let items = ap length c.in_ok-items.ensures in
-    let texts = length-texts c.in_ok-items.items.items in
-    omega arith
-
-pub invariant_of-result-clause-few : goal.invariant_of-result-clause-few
-invariant_of-result-clause-few c =
-    let names = each c in
-    omega (arith, names, c.if-len-gt16.false, c.len.ensures, c.in_ok-items.items.ok)
 
 pub invariant_of-result-clause-distinct : goal.invariant_of-result-clause-distinct
-invariant_of-result-clause-distinct c = ∣ c.in_ok-names.ensures.names.apart ∣₁
+invariant_of-result-clause-distinct c = ∣ c.in-Ok.ensures.names.names_are.apart ∣₁

@@ -26,6 +26,10 @@ returns-in-Generate-clause-carried_out g c =
 pub returns-in-CheckRun-clause-carried_out : goal.returns-in-CheckRun-clause-carried_out
 returns-in-CheckRun-clause-carried_out g c = rw c.in-CheckRun.is c.check_run.ensures.carried_out
 
+pub returns-in-Narrow-clause-carried_out : goal.returns-in-Narrow-clause-carried_out
+returns-in-Narrow-clause-carried_out g c =
+    rw c.in-Narrow.is (reply_ends _ _ _ c.reply_to_narrow.result _ c.reply_to_narrow.ensures c.say_reply-in-Narrow.ensures.said)
+
 pub returns-in-Upgrade-clause-carried_out : goal.returns-in-Upgrade-clause-carried_out
 returns-in-Upgrade-clause-carried_out g c =
     rw c.in-Upgrade.is (reply_ends _ _ _ c.reply_to_upgrade.result _ c.reply_to_upgrade.ensures c.say_reply-in-Upgrade.ensures.said)

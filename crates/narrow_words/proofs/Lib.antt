@@ -1,0 +1,4 @@
+mod StatesTold
+mod PointsSoFar
+mod Answered
+mod Words
