@@ -1,0 +1,4 @@
+pub mod Ends
+pub mod Faults
+pub mod Verdicts
+pub mod Depths
