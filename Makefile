@@ -28,7 +28,7 @@ help:
 	@echo 'make upgrade FILE=F REPORT=R    the report R with certificates'
 	@echo
 	@echo 'These run the program that make build made, at once, where no source is newer than it; else each compiles the'
-	@echo 'sources anew, without proofs: 67 to 120 s where it was measured, on four processors of 2.1 GHz.'
+	@echo 'sources anew, without proofs: 67 to 114 s where it was measured, with four processors.'
 	@echo
 	@echo 'make build                      proves and builds the program                  half an hour or more where nothing is kept'
 	@echo 'make install PREFIX=P           the proved program as P/bin/affine-relations, and its manual page'
