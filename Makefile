@@ -36,7 +36,7 @@ help:
 	@echo 'make large                      the built program on inputs near the limits    half a minute'
 	@echo 'make hostile                    the built program on damaged and odd files and outputs     half a minute'
 	@echo 'make faults                     each allocation, read and write of the built program fails in turn   half a minute'
-	@echo 'make readme                     each command of README.md, with what it shows'
+	@echo 'make readme                     each command of README.md and of the manual page, with what they show, and make'"'"'s messages'
 	@echo 'make bench                      times of the built program on files of growing size   some seconds'
 	@echo 'make edits                      further wrong bodies, each of which the proof must refuse     half an hour or more'
 	@echo
@@ -79,8 +79,9 @@ bench:
 is_built:
 	@test -x $(PROGRAM) || { echo 'make: make build comes first' >&2; exit 1; }
 
-readme:
-	@python3 tests/readme.py README.md
+readme: is_built
+	@python3 tests/messages.py
+	@python3 tests/readme.py README.md docs/affine-relations.md
 
 test:
 	rt ci
