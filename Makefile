@@ -63,6 +63,7 @@ upgrade:
 
 build:
 	@cd crates/analyser_main && rt run -- list ../../examples/one_register.elf
+	@touch .built-analyser_main
 	@echo 'make: built, proved: $(PROGRAM)'
 
 install:
