@@ -28,7 +28,7 @@ help:
 	@echo 'make upgrade FILE=F REPORT=R    the report R with certificates'
 	@echo
 	@echo 'These run the program that make build made, at once, where no source is newer than it; else each compiles the'
-	@echo 'sources anew, without proofs: 67 to 120 s where it was measured, on four processors of 2.1 GHz.'
+	@echo 'sources anew, without proofs: 67 to 114 s where it was measured, with four processors.'
 	@echo
 	@echo 'make build                      proves and builds the program                  half an hour or more where nothing is kept'
 	@echo 'make install PREFIX=P           the proved program as P/bin/affine-relations, and its manual page'
@@ -36,7 +36,7 @@ help:
 	@echo 'make large                      the built program on inputs near the limits    half a minute'
 	@echo 'make hostile                    the built program on damaged and odd files and outputs     half a minute'
 	@echo 'make faults                     each allocation, read and write of the built program fails in turn   half a minute'
-	@echo 'make readme                     each command of README.md, with what it shows'
+	@echo 'make readme                     each command of README.md and of the manual page, with what they show, and make'"'"'s messages'
 	@echo 'make bench                      times of the built program on files of growing size   some seconds'
 	@echo 'make edits                      further wrong bodies, each of which the proof must refuse     half an hour or more'
 	@echo
@@ -63,6 +63,7 @@ upgrade:
 
 build:
 	@cd crates/analyser_main && rt run -- list ../../examples/one_register.elf
+	@touch .built-analyser_main
 	@echo 'make: built, proved: $(PROGRAM)'
 
 install:
@@ -79,8 +80,9 @@ bench:
 is_built:
 	@test -x $(PROGRAM) || { echo 'make: make build comes first' >&2; exit 1; }
 
-readme:
-	@python3 tests/readme.py README.md
+readme: is_built
+	@python3 tests/messages.py
+	@python3 tests/readme.py README.md docs/affine-relations.md
 
 test:
 	rt ci

@@ -440,6 +440,17 @@ def closed_outputs(place):
             place.wants(f"{order} and the file", FRAME, file.read())
 
 
+def closed_inputs(place):
+    """Standard input and error are closed: nothing is read from the one or written to the other."""
+    for order in ORDERS:
+        place.put_report(order)
+        place.asks(order, whole(order), about="with no input", preexec_fn=lambda: os.close(0))
+        place.asks(order, whole(order), about="with no error", preexec_fn=lambda: (os.close(0), os.close(2)))
+        ends_with(place, order, 4, None, "with none", preexec_fn=lambda: (os.close(0), os.close(1), os.close(2)))
+    with open(place.path("file.elf"), "rb") as file:
+        place.wants("the file", FRAME, file.read())
+
+
 def gone_readers(place):
     """Whoever reads a pipe has gone: the write fails, whether the caller ignores the signal for it or not."""
     for order in ORDERS:
@@ -538,7 +549,7 @@ def little_memory(place):
 TESTS = [
     whole_answers, cut_files, headers, a_segment_of_half_of_memory, a_run_in_half_of_memory, cut_reports, written_elsewhere, exchanged,
     absent, folder, unreadable, empty, zeros, long_reports, other_files, pipes, slow_pipes, growing_and_shrinking, growing_without_end,
-    arguments, full_outputs, outputs_with_little_room, closed_outputs, gone_readers, interrupted_runs, interrupted_texts,
+    arguments, full_outputs, outputs_with_little_room, closed_outputs, closed_inputs, gone_readers, interrupted_runs, interrupted_texts,
     suspended_runs, little_memory,
 ]
 

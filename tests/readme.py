@@ -1,11 +1,11 @@
 #!/usr/bin/env python3
-"""Each command of a page, as it stands there, with what the page shows of it.
+"""Each command of pages, as it stands there, with what the page shows of it.
 
-    readme.py PAGE.md [--all]
+    readme.py PAGE.md .. [--all]
 
 A command is a line `$ ..` of an indented block, with the lines up to END where it has `<<'END'`. The lines below it are what
 it prints on standard output, where a line `...` stands for any lines; with none, it is only to end well. The commands run one after the
-other in a copy of the repository, with a folder of its own as HOME. One whose program isn't installed is passed over, and
+other in a copy of the repository, with a folder of its own as HOME, whose .local/bin is looked in first. One whose program isn't installed is passed over, and
 so are those that take long, but with --all.
 """
 import os
@@ -64,17 +64,21 @@ def copied(folder):
 def main():
     if len(sys.argv) < 2:
         sys.exit(__doc__)
-    with open(sys.argv[1], encoding="utf-8") as page:
-        found = commands(page.read().split("\n"))
+    found = []
+    for name in sys.argv[1:]:
+        if name != "--all":
+            with open(name, encoding="utf-8") as page:
+                found += commands(page.read().split("\n"))
     passed = failed = over = 0
     with tempfile.TemporaryDirectory() as folder:
         place = copied(folder)
         environment = {name: value for name, value in os.environ.items() if not name.startswith(("MAKE", "MFLAGS"))} | {"HOME": folder}
+        environment["PATH"] = os.path.join(folder, ".local", "bin") + ":" + environment["PATH"]
         for name in ("FILE", "TRACK", "REPORT", "STEPS", "REGS"):
             environment.pop(name, None)
         for command, shown in found:
             title = command.split("\n")[0]
-            if title in LONG and "--all" not in sys.argv or shutil.which(title.split(" ")[0]) is None:
+            if title in LONG and "--all" not in sys.argv or shutil.which(title.split(" ")[0], path=environment["PATH"]) is None:
                 over += 1
                 print(f"passed over  {title}", flush=True)
                 continue
