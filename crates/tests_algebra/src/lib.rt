@@ -30,3 +30,5 @@ mod small_programs;
 mod states;
 #[cfg(test)]
 mod summaries;
+#[cfg(test)]
+mod verdicts;

@@ -1,0 +1,10 @@
+mod Choosing
+mod Opening
+mod Closed
+mod Applying
+mod Ruling
+mod Claiming
+mod Starting
+mod Passing
+mod Following
+pub mod Lemmas

@@ -1,0 +1,9 @@
+mod Under
+mod Tried
+mod Pointing
+mod Basing
+mod Ruled
+mod Members
+mod Placing
+mod Holding
+mod Breaching

@@ -1,0 +1,6 @@
+use Rattle.std.proofs.Common.{ℕ, ◌<◌}
+use Rattle.proof_verify.specs.Items.{call_rule, nth_edge}
+use Rattle.proof_verify.proofs.first.first_broken_call.Given as goal
+
+abbrev pub invariant-loop-k : goal.invariant-loop-k
+invariant-loop-k l = (j : ℕ) → j < l.k → call_rule l.program l.levels (nth_edge l.program j)

@@ -1,0 +1,5 @@
+pub mod Tests
+pub mod Items
+pub mod Points
+pub mod Verdicts
+pub mod RowBases
