@@ -1,11 +1,16 @@
 -- A run goes on, turn after turn.
 --
 --   IsOn R scene limit a b old now   the run goes from a to b, and each watch, as it is now, has seen what is seen of that
-use Rattle.std.proofs.Common.{◌≡◌, ◌≢◌, ℕ, ◌+◌, ◌<◌, ◌≤◌, arith, Option, List, [], ◌∷◌, ◌++◌, length, None, Some, refl, sym, subst, ◌∙◌, ap}
+use Rattle.std.proofs.Common.{◌≡◌, ◌≢◌, ℕ, ◌+◌, ◌-◌, ◌<◌, ◌≤◌, arith, Option, List, [], ◌∷◌, ◌++◌, length, None, Some, refl, sym, subst, ◌∙◌, ap}
 use Rattle.std.specs.List.{AllZip}
 use Rattle.run_watch.specs.Runs.{Scene, Spot, Sight, Reaches, here, onward, Turn, on, off, IsWatched, Ends, steps_of}
 use Rattle.run_watch.specs.Runs.{IsCall}
 use Rattle.run_watch.specs.Activations.{Stack, TurnsBy}
+use Rattle.run_watch.specs.Runs.{verdict}
+use Rattle.run_watch.specs.Quiet.{Quietly}
+use Rattle.run_watch.specs.declared.context.Found.{Found}
+use Rattle.rv_step.specs.declared.machine.Machine.{Machine}
+use Rattle.run_watch.proofs.Silent.{reaches_then}
 use Rattle.run_watch.specs.declared.stops.RunStop.{RunStop}
 use Rattle.flow_points.specs.declared.code_points.Flow.{Flow}
 use Rattle.flow_points.specs.declared.code_points.Flow.TheVariants as flow
@@ -52,6 +57,25 @@ few_by (flow.Next n) i offsets regs next a b t few room = kept a b t.0 few
 few_by (flow.Jump n) i offsets regs next a b t few room = kept a b t.0 few
 few_by (flow.Branch n target) i offsets regs next a b t few room = kept a b t.0 few
 few_by flow.Halt i offsets regs next a b t few room = kept a b t.0 few
+
+-- steps of which no watch sees the records
+pub on_quietly : {B : Type 0} (R : List Sight → B → B → Type 0) (scene : Scene) (limit : ℕ) (a b : Spot) (machine : Machine) (old now : List B)
+    → ((xs ys : List Sight) (x y z : B) → R xs x y → R ys y z → R (xs ++ ys) x z)
+    → ((seen : List Sight) (w : B) → ((kind : ℕ) (state : Option Found) → verdict kind state seen ≡ state) → R seen w w)
+    → IsOn R scene limit a b old now → Quietly scene limit b (record { machine = machine; stack = b.stack })
+    → IsOn R scene limit a (record { machine = machine; stack = b.stack }) old now
+on_quietly R scene limit a b machine old now join unseen is calm = record {
+  seen = is.seen ++ calm.seen;
+  reaches = reaches_then scene limit a b (record { machine = machine; stack = b.stack }) is.seen calm.seen is.reaches calm.reaches;
+  shown = zip_then (R is.seen) (R calm.seen) (R (is.seen ++ calm.seen)) old now now (join is.seen calm.seen) is.shown
+      (zip_same (R calm.seen) now (λ w. unseen calm.seen w calm.silent));
+  few = is.few;
+  within = calm.within;
+}
+
+-- fewer steps are left
+pub fewer : (limit before between after : ℕ) → before ≤ between → after ≡ between + 1 → between < limit → limit - after < limit - before
+fewer limit before between after more counted within = omega (arith, more, counted, within)
 
 -- a turn that goes on
 pub turned : {B : Type 0} (R : List Sight → B → B → Type 0) (scene : Scene) (limit : ℕ) (a b c : Spot) (seen : List Sight)

@@ -1,4 +1,6 @@
 mod Nearby
+mod Spared
+mod Silent
 mod Shown
 mod Keeping
 mod Seeing

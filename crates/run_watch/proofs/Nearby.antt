@@ -42,6 +42,14 @@ kept_among_last slots depth writable store apart = alike _ _ store (λ k within.
     let slot = slice_index_or slots.earlier i d in
     ap (λ b. b && not (is_writable depth writable slot)) (apart i d inside k within)))))
 
+pub none_kept : (slots : Slots) (depth writable : ℕ) (store : StoreRec) → All (IsApart store.address) slots.earlier
+    → ((k : ℕ) → k < 8 → list_any (holds_kept depth writable (byte_at store.address k)) slots.last ≡ false)
+    → find (λ a. list_any (holds_kept depth writable a) (live slots)) (changed_bytes store) ≡ None
+none_kept slots depth writable store apart none =
+    sym (kept_among_last slots depth writable store apart)
+    ∙ alike (λ a. list_any (holds_kept depth writable a) slots.last) (λ a. false) store none
+    ∙ never_found (changed_bytes store)
+
 pub no_code_changed : (code : List CodeAt) (store : StoreRec) → All (IsOff store.address) code
     → None ≡ find (λ a. list_any (holds_code a) code) (changed_bytes store)
 no_code_changed code store off = sym (never_found (changed_bytes store)) ∙ sym (alike (λ a. list_any (holds_code a) code) (λ a. false) store (λ k within.

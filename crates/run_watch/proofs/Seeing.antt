@@ -22,10 +22,15 @@ zip_then R S T (x ∷ xs) (y ∷ ys) (z ∷ zs) h (r, a) (s, b) = (h x y z r s, 
 pub seen_none : (kind : ℕ) (state : Option Found) → HasSeen [] kind state kind state
 seen_none kind state = record { same_kind = refl; judged = λ least most. refl }
 
-verdict-append : (kind : ℕ) (xs ys : List Sight) (state : Option Found)
+pub verdict-append : (kind : ℕ) (xs ys : List Sight) (state : Option Found)
     → verdict kind state (xs ++ ys) ≡ verdict kind (verdict kind state xs) ys
 verdict-append kind [] ys state = refl
 verdict-append kind (s ∷ xs) ys state = verdict-append kind xs ys (judge kind state s.moment s.told)
+
+-- records in which nothing is found, whether the watch saw them or not
+pub seen_quietly : (seen : List Sight) (kind : ℕ) (state : Option Found) → ((k : ℕ) (s : Option Found) → verdict k s seen ≡ s)
+    → HasSeen seen kind state kind state
+seen_quietly seen kind state silent = record { same_kind = refl; judged = λ least most. sym (silent kind state) }
 
 -- some records were seen, and then others
 pub seen_then : (xs ys : List Sight) (k l m : ℕ) (a b c : Option Found)

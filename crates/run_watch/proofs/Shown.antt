@@ -1,8 +1,9 @@
 -- Loops over lists that take each item in turn.
 --
 --   IsShownTo R i old new   R leads from each of the first i old items to the new one, and the others are the same
-use Rattle.std.proofs.Common.{◌≡◌, ℕ, ◌+◌, ◌<◌, List, [], ◌∷◌, ◌++◌, length, take, drop, get_or, slice_set, sym, ◌∙◌, ap, subst, arith}
-use Rattle.std.proofs.lemmas.List.{take_more, drop_more, take_more_set, drop-set-lt}
+use Rattle.std.proofs.Common.{◌≡◌, ℕ, ◌+◌, ◌<◌, ◌≤◌, List, [], ◌∷◌, ◌++◌, length, take, drop, get_or, slice_set, All, zero, suc, sym, ◌∙◌, ap, subst, arith}
+use Rattle.std.proofs.lemmas.List.Elements.{All-append}
+use Rattle.std.proofs.lemmas.List.{take_all, take_more, drop_more, take_more_set, drop-set-lt}
 use Rattle.std.specs.List.{AllZip}
 
 pub record IsShownTo {B : Type 0} (R : B → B → Type 0) (i : ℕ) (old new : List B) : Type 0 where
@@ -40,3 +41,17 @@ shown_more R i old now d y long within_old r s =
           (zip_push R (take i old) (take i now) (get_or old i d) y s.done (subst (λ x. R x y) now_is r)));
       same = drop-set-lt (i + 1) now i y (omega arith) ∙ ap (λ xs. drop 1 xs) tails;
     }
+
+-- one more item passes
+pub all_more : {B : Type 0} (P : B → Type 0) (xs : List B) (i : ℕ) (x : B) → i < length xs → x ≡ get_or xs i x → All P (take i xs) → P x
+    → All P (take (i + 1) xs)
+all_more {B = B} P xs i x within is all there =
+    let front : take (i + 1) xs ≡ take i xs ++ x ∷ [] = take_more xs i x within ∙ ap (λ z. take i xs ++ z ∷ []) (sym is) in
+    subst (λ ys. All P ys) (sym front) (All-append P (take i xs) (x ∷ []) all (λ k d below. only k d below))
+  where
+    only : (k : ℕ) (d : B) → k < 1 → P (get_or (x ∷ []) k d)
+    only zero d below = there
+    only (suc k) d below = absurd (omega (arith, below))
+
+pub all_taken : {B : Type 0} (P : B → Type 0) (xs : List B) (i : ℕ) → length xs ≤ i → All P (take i xs) → All P xs
+all_taken P xs i past all = subst (λ ys. All P ys) (take_all i xs past) all

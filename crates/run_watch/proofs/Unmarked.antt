@@ -40,7 +40,7 @@ holds_none marks names activations b fits are none k d within =
 between : (y k : ℕ) → k < 8 → 8 ≤ y % 2 ^ 64 → 8 ≤ (y + 7) % 2 ^ 64 → 8 ≤ (y + k) % 2 ^ 64
 between y k below at_first at_last = omega (arith, below, at_first, at_last)
 
-from_place : (a k x : ℕ) → ((a + k) % 2 ^ 64 + x) % 2 ^ 64 ≡ (a + x + k) % 2 ^ 64
+pub from_place : (a k x : ℕ) → ((a + k) % 2 ^ 64 + x) % 2 ^ 64 ≡ (a + x + k) % 2 ^ 64
 from_place a k x = mod-add-mod (a + k) (2 ^ 64) x ∙ ap (λ n. n % 2 ^ 64) (let e : a + k + x ≡ a + x + k = omega arith in e)
 
 pub all_apart : (slots : List SlotAt) (a : ℕ) → All (λ s. nat_lt (distance s.address a) 8 ≡ false) slots

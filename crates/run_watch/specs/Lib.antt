@@ -5,3 +5,4 @@ pub mod Moments
 pub mod Judges
 pub mod Runs
 pub mod Turns
+pub mod Quiet

@@ -7,6 +7,7 @@ ghost use Rattle.run_watch.specs.Activations.{slot_in, slot_address, slots_of, s
 ghost use Rattle.run_watch.specs.Slots.{live, IsApart};
 ghost use Rattle.run_watch.specs.Moments.{slots_in};
 ghost use Rattle.run_watch.specs.Judges.{holds_kept, has_bit};
+ghost use Rattle.run_watch.specs.Quiet.{is_close, may_change};
 
 use crate::activation::Activation;
 use crate::context::LiveSlots;
@@ -49,6 +50,74 @@ impl LiveSlots<'_> {
     {
         keeps(self.names, self.earlier.len() + 1, self.last, allowed, byte)
     }
+
+    /// A store at an address may change a byte of a slot of the last activation that isn't writable.
+    pub(crate) fn last_may_change(&self, allowed: Allowed, address: u64) -> bool
+        ensures { result ≡ list_any (may_change allowed.depth allowed.writable address) (slots_in self.now).last }
+    {
+        may_change(
+            self.names,
+            self.earlier.len() + 1,
+            self.last,
+            allowed,
+            address,
+        )
+    }
+}
+
+// A store at an address may change a byte of a slot of the activation at a depth that isn't writable.
+fn may_change(
+    names: &[Name],
+    depth: usize,
+    activation: &Activation,
+    allowed: Allowed,
+    address: u64,
+) -> bool
+    ensures { result ≡ list_any (may_change allowed.depth allowed.writable address) (slots_of names.now depth activation.now) }
+{
+    any_may_change(names, depth, activation, allowed, address)
+}
+
+// So it is with one of the names.
+fn any_may_change(
+    names: &[Name],
+    depth: usize,
+    activation: &Activation,
+    allowed: Allowed,
+    address: u64,
+) -> bool
+    ensures { result ≡ list_any (λ item. option_map_or (may_change allowed.depth allowed.writable address) (slot_in depth activation.now item) false) (enumerate_from 0 names.now) }
+{
+    names.iter().enumerate().any(|(k, name)| name_may_change(
+        k, name, depth, activation, allowed, address,
+    ))
+}
+
+// So it is with the name at a position.
+fn name_may_change(
+    position: usize,
+    name: &Name,
+    depth: usize,
+    activation: &Activation,
+    allowed: Allowed,
+    address: u64,
+) -> bool
+    ensures { result ≡ option_map_or (may_change allowed.depth allowed.writable address) (slot_in depth activation.now (position, name.now)) false }
+{
+    match *name {
+        Name::Slot { proc_entry, below } if proc_entry == activation.procedure => {
+            is_close(slot_address(activation, below), address)
+                && !(depth == allowed.depth as usize && has_bit(allowed.writable, position))
+        }
+        _ => false,
+    }
+}
+
+// One of the 8 bytes from an address on is one of the 8 bytes from a place on.
+fn is_close(place: u64, address: u64) -> bool
+    ensures { result ≡ is_close place address }
+{
+    address.wrapping_sub(place).wrapping_add(7) < 15
 }
 
 // A byte lies in a slot of these activations, from the first on, that isn't writable.

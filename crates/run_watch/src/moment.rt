@@ -67,8 +67,8 @@ pub(crate) fn context<'a>(
     }
 }
 
-// What a report tells of a point, if it has it. Its points ascend.
-fn told_at(told: &[PointRows], point: Point) -> Option<&PointRows>
+/// What a report tells of a point, if it has it. Its points ascend.
+pub(crate) fn told_at(told: &[PointRows], point: Point) -> Option<&PointRows>
     requires { ∥ Ascend told.now ∥₁ }
     ensures { option_copied result ≡ find (is_told_of point) told.now }
 {
@@ -96,8 +96,8 @@ fn point_of(told: &PointRows) -> Point
     }
 }
 
-// It calls the point unreached.
-fn is_unreached(told: Option<&PointRows>) -> bool
+/// It calls the point unreached.
+pub(crate) fn is_unreached(told: Option<&PointRows>) -> bool
     ensures { result ≡ is_unreached (option_map (λ t. t.state) (option_copied told.entry)) }
 {
     match told {
@@ -106,8 +106,8 @@ fn is_unreached(told: Option<&PointRows>) -> bool
     }
 }
 
-// The rows that it has there.
-fn rows_in(told: Option<&PointRows>) -> &[Row<17>]
+/// The rows that it has there.
+pub(crate) fn rows_in(told: Option<&PointRows>) -> &[Row<17>]
     ensures { result.now ≡ rows_in (option_map (λ t. t.state) (option_copied told.entry)) }
 {
     match told {

@@ -1,8 +1,9 @@
 //! Watches that see a run.
 
-ghost use Rattle.std.specs.Prelude.{◌≡◌, [], ◌∷◌, IfOk};
+ghost use Rattle.std.specs.Prelude.{◌≡◌, [], ◌∷◌, All, IsTrue, ◌↔◌, IfOk};
 ghost use Rattle.std.specs.List.{AllZip};
 ghost use Rattle.run_watch.specs.Moments.{moment_of};
+ghost use Rattle.run_watch.specs.Quiet.{IsKnown};
 ghost use Rattle.run_watch.specs.Runs.{HasSeen, sight_of};
 
 use crate::context::{Found, WatchCtx};
@@ -25,6 +26,26 @@ fn show_one(watch: &mut Box<dyn Watch>, ctx: &WatchCtx, rec: &StepRec)
     ensures { HasSeen (sight_of (moment_of ctx.now) rec.now ∷ []) (kind_of watch.old) (state watch.old) (kind_of watch.new) (state watch.new) }
 {
     watch.see(ctx, rec);
+}
+
+/// All watches are of the kinds 1 to 4, of which it is told what they find.
+pub(crate) fn are_known(watches: &[Box<dyn Watch>]) -> bool
+    ensures { IsTrue result ↔ All (λ watch. IsKnown (kind_of watch)) watches.now }
+{
+    for watch in watches {
+        if !is_known(watch) {
+            return false;
+        }
+    }
+    true
+}
+
+// A watch is of one of these kinds.
+fn is_known(watch: &Box<dyn Watch>) -> bool
+    ensures { IsTrue result ↔ IsKnown (kind_of watch.now) }
+{
+    let kind = watch.kind();
+    1 <= kind && kind <= 4
 }
 
 /// What each watch found, in order.

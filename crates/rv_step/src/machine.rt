@@ -32,6 +32,27 @@ impl Machine {
     ghost use Rattle.rv_step.specs.Machines.{hart_of, made_of};
     ghost use Rattle.rv_step.specs.Records.{IsClosing};
 
+    /// The address of the next instruction.
+    pub fn pc(&self) -> u64
+        ensures { result ≡ (hart_of self.now).pc }
+    {
+        self.pc
+    }
+
+    /// How many steps were made.
+    pub fn made(&self) -> u64
+        ensures { result ≡ made_of self.now }
+    {
+        self.made
+    }
+
+    /// The words in the registers.
+    pub fn registers(&self) -> &[u64; 32]
+        ensures { result.now ≡ (hart_of self.now).registers }
+    {
+        &self.registers
+    }
+
     /// The instruction word in memory at pc; `None` exactly where nothing is fetched there.
     pub fn fetched(&self) -> Option<u32>
         ensures { result ≡ option_map (λ at. at.word) (fetched (hart_of self.now)) }
@@ -91,7 +112,7 @@ impl Machine {
     }
 
     /// The word in a register.
-    pub(crate) fn register(&self, r: u8) -> u64
+    pub fn register(&self, r: u8) -> u64
         requires { r < 32 }
         ensures { result ≡ x (hart_of self.now) r }
     {

@@ -1,16 +1,17 @@
 //! One step.
 
-ghost use Rattle.std.specs.Prelude.{◌≡◌, ◌≢◌, ◌+◌, ◌-◌, ◌^◌, min, Err, OnOk, OnErr, IfOk, IfErr};
+ghost use Rattle.std.specs.Prelude.{◌≡◌, ◌≢◌, ◌+◌, ◌-◌, ◌^◌, min, Err, OnOk, OnErr, IfOk, IfErr, IfSome};
 ghost use Rattle.rv_step.specs.Harts.{Hart, IsSame};
 ghost use Rattle.rv_step.specs.Machines.{hart_of, made_of};
 ghost use Rattle.rv_step.specs.Own.{IsOwn, IsStore};
 ghost use Rattle.rv_step.specs.Steps.{Step, IsAt};
-ghost use Rattle.rv_step.specs.Records.{StopsWith, StopsAt, IsAtStore, IsRecord};
+ghost use Rattle.rv_step.specs.Records.{StopsWith, StopsAt, IsAtStore, IsRecord, store_of};
 ghost use Rattle.rv_decode.specs.Instructions.{IsWellFormed};
 ghost use Rattle.rv_step.specs.declared.records.Stop.{Stop};
 
+use crate::Memory;
 use crate::machine::Machine;
-use crate::records::{StepRec, Stop};
+use crate::records::{StepRec, Stop, StoreRec};
 use elf_image::Fetched;
 use rv_decode::Instr;
 use rvc_expand::decode_with_length;
@@ -61,6 +62,42 @@ impl Machine {
         }
     }
 
+    /// What is fetched at pc and the instruction that it means, where the machine makes a step of its own there.
+    pub fn own(&self) -> Option<(Fetched, Instr)>
+        ensures is_at { IfSome result (λ own. IsAt (hart_of self.now) own.0 own.1) }
+        ensures own { IfSome result (λ own. IsOwn own.1) }
+        ensures well_formed { IfSome result (λ own. IsWellFormed own.1) }
+    {
+        let at = self.fetch()?;
+        let instr = decode_with_length(at.word, at.length)?;
+        match instr {
+            Instr::Ecall | Instr::Ebreak => None,
+            _ => Some((at, instr)),
+        }
+    }
+
+    /// Makes the step of an instruction at pc that is the machine's own, and tells the store alone.
+    pub fn advance(&mut self, at: Fetched, instr: Instr) -> Result<Option<StoreRec>, Memory>
+        requires is_at { IsAt (hart_of self.old) at instr }
+        requires well_formed { IsWellFormed instr }
+        requires own { IsOwn instr }
+        ensures stepped { OnOk result (Step (hart_of self.old) (hart_of self.new)) }
+        ensures told { IfOk result (λ store. store ≡ store_of instr (hart_of self.old) (hart_of self.new)) }
+        ensures counted { OnOk result (made_of self.new ≡ min (made_of self.old + 1) (2 ^ 64 - 1)) }
+        ensures stays { OnErr result (IsSame (hart_of self.new) (hart_of self.old)) }
+        ensures count_stays { OnErr result (made_of self.new ≡ made_of self.old) }
+        ensures at_store { OnErr result (IsStore instr) }
+    {
+        let next = self.pc.wrapping_add(u64::from(at.length));
+        match self.execute(instr, next) {
+            Ok(store) => {
+                self.made = self.made.saturating_add(1);
+                Ok(store)
+            }
+            Err(_) => Err(Memory),
+        }
+    }
+
     // Makes the step of an instruction.
     fn make(&mut self, at: Fetched, instr: Instr) -> Result<StepRec, Stop>
         requires is_at { IsAt (hart_of self.old) at instr }
@@ -75,21 +112,17 @@ impl Machine {
         ensures at_store { OnErr result (IsStore instr) }
     {
         let (index, pc, regs) = (self.made, self.pc, self.registers);
-        let next = pc.wrapping_add(u64::from(at.length));
-        match self.execute(instr, next) {
-            Ok(store) => {
-                self.made = index.saturating_add(1);
-                Ok(StepRec {
-                    index,
-                    made: true,
-                    pc,
-                    word: at.word,
-                    length: at.length,
-                    regs,
-                    next: self.pc,
-                    store,
-                })
-            }
+        match self.advance(at, instr) {
+            Ok(store) => Ok(StepRec {
+                index,
+                made: true,
+                pc,
+                word: at.word,
+                length: at.length,
+                regs,
+                next: self.pc,
+                store,
+            }),
             Err(_) => Err(Stop::Memory),
         }
     }
