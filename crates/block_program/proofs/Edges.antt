@@ -2,6 +2,7 @@
 use Rattle.std.proofs.Common.{◌≡◌, ℕ, ◌⊎◌, inl, inr, List, [], ◌∷◌, ◌++◌, Contains, refl, ap, sym, subst, ◌∙◌, ◌==◌}
 use Rattle.std.specs.List.{list_any}
 use Rattle.std.proofs.lemmas.Bool.{eq-eqb}
+use Rattle.row_modules.proofs.Laws.{nothing_contained, first_or_later}
 use Rattle.affine_prog.specs.declared.Program.{Program}
 use Rattle.affine_prog.specs.declared.Edge.{Edge}
 use Rattle.affine_prog.specs.declared.Kind.{Kind}
@@ -11,7 +12,7 @@ use Rattle.affine_prog.specs.Programs.{edge}
 use Rattle.block_program.specs.Chains.{edges_into, IsInner, IsHead, Chain, here, after}
 use Rattle.block_program.specs.BlockPrograms.{behind, IsBlockEdge, edges_to, IsBlockProgram}
 use Rattle.block_program.specs.EdgesInto.{assigns_of}
-use Rattle.block_program.proofs.Lists.{first_or_later_in, nothing_in, filter_in, filter_out, zip_in, zip_out, listed}
+use Rattle.block_program.proofs.Lists.{filter_in, filter_out, zip_in, zip_out, listed}
 
 -- the callee of a kind, and whether it calls
 abbrev pub callee_of : Kind → ℕ
@@ -24,7 +25,7 @@ IsCall (Call q before) = Unit {0}
 
 -- the one edge into an inner node
 pub only_member : {X : Type 0} (x y : X) → Contains (y ∷ []) x → x ≡ y
-only_member x y h = elim (first_or_later_in y [] x h) [ inl e ↦ e | inr k ↦ absurd (nothing_in x k) ]
+only_member x y h = elim (first_or_later y [] x h) [ inl e ↦ e | inr k ↦ absurd (nothing_contained x k) ]
 
 pub only_edge : (program : Program) (u v : ℕ) (kind : Kind) (n : IsInner program v) → Contains program.edges (edge u v kind)
     → edge u v kind ≡ edge n.from v (Do n.assigns)

@@ -5,6 +5,7 @@ use Rattle.std.specs.List.{AllZip, list_any}
 use Rattle.std.proofs.lemmas.Bool.{eqb-true, false≢true}
 use Rattle.std.proofs.lemmas.List.{append-nil, get_or-map}
 use Rattle.std.proofs.lemmas.List.Elements.{filter_more, AllZip-push}
+use Rattle.row_modules.proofs.Laws.{contains_first, contains_later}
 use Rattle.affine_prog.specs.declared.Program.{Program}
 use Rattle.affine_prog.specs.declared.Proc.{Proc}
 use Rattle.affine_prog.specs.Programs.{entry_of, exit_of, IsWellFormed}
@@ -13,7 +14,7 @@ use Rattle.affine_prog.specs.declared.Assign.{Assign}
 use Rattle.block_program.specs.Chains.{IsInner, IsHead, Chain, here, after}
 use Rattle.block_program.specs.BlockPrograms.{IsBlockEdge, edges_to, NumbersHeads}
 use Rattle.block_program.specs.Numbers.{AreNumbersBelow, IsNumber}
-use Rattle.block_program.proofs.Lists.{listed, first_in, later_in}
+use Rattle.block_program.proofs.Lists.{listed}
 
 -- a number that is listed is in the list
 unlisted : (xs : List ℕ) (x : ℕ) → list_any (λ y. y == x) xs ≡ true → Contains xs x
@@ -21,8 +22,8 @@ unlisted [] x e = absurd (false≢true e)
 unlisted (y ∷ xs) x e = by (y == x) refl e (unlisted xs x)
   where
     by : (b : Bool) → (y == x) ≡ b → (b || list_any (λ z. z == x) xs) ≡ true → (list_any (λ z. z == x) xs ≡ true → Contains xs x) → Contains (y ∷ xs) x
-    by true same h rest = subst (Contains (y ∷ xs)) (eqb-true y x same) (first_in y xs)
-    by false same h rest = later_in y xs x (rest h)
+    by true same h rest = subst (Contains (y ∷ xs)) (eqb-true y x same) (contains_first y xs)
+    by false same h rest = contains_later y xs x (rest h)
 
 pub chain_head : (program : Program) (h v : ℕ) (chain : List Assign) → Chain program h v chain → IsHead program h
 chain_head program h v chain (here h' v' chain' head same none) = head

@@ -37,6 +37,7 @@ impl Image {
     ghost use Rattle.elf_image.specs.declared.segment.Segment.{Segment};
 
     /// What each image keeps, for callers that need it.
+    #[tactic(auto, using(crate::proofs::Laws::few, crate::proofs::Laws::loadable, crate::proofs::Laws::apart, crate::proofs::Laws::one_segment, crate::proofs::Laws::words, crate::proofs::Laws::entry_is_multiple, crate::proofs::Laws::entry_has_code))]
     pub fn known(&self)
         ensures bytes { All (λ b. b < 256) self.now.file }
         ensures few { length self.now.segments ≤ 64 }

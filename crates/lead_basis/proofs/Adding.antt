@@ -4,11 +4,10 @@ use Rattle.std.specs.Int.{w64, trailing_zeros}
 use Rattle.word_rows.specs.Rows.{lead, pivot}
 use Rattle.row_modules.specs.Modules.{IsCombination}
 use Rattle.row_modules.specs.Bases.{Leads}
-use Rattle.row_modules.proofs.Laws.{contains_first}
 use Rattle.lead_basis.specs.Inserts.{IsBetween, Adds}
 use Rattle.lead_basis.proofs.Powers.{exponent}
 use Rattle.lead_basis.proofs.Leading.{basis_rows}
-use Rattle.lead_basis.proofs.Between.{multiple_of, later_within, within_with, later_leads, between_from}
+use Rattle.lead_basis.proofs.Between.{later_within, within_with, later_leads, between_from, adds_own}
 use Rattle.lead_basis.proofs.Preceding.{Precedes, closing_is_row, closing_later, not_member, wide, own_in, closing_in}
 
 module _ {n : ℕ} {old : List (List ℕ)} {row own next : List ℕ} (it : Precedes n old row own next) where
@@ -49,17 +48,6 @@ module _ {n : ℕ} {old : List (List ℕ)} {row own next : List ℕ} (it : Prece
 
   pub adds_new : {E : Type 0} (new : List (List ℕ)) (grew : Bool) (before after : ℕ) → Adds {E = E} n old next new (Ok grew) before after → Adds {E = E} n old row (own ∷ new) (Ok true) before (after + 1)
   adds_new new grew before after a =
-      let b = between_new new a.between a.added in
       let small = it.normal.small in
       let t : trailing_zeros w64 (pivot own) ≡ it.normal.power = ap (λ (x : ℕ). trailing_zeros w64 x) it.normal.is_pivot ∙ exponent it.normal.power it.normal.small in
-      record {
-        between = b;
-        added = let e = it.normal.back in rw e (multiple_of n it.normal.inverse own (own ∷ new) (basis_rows n (own ∷ new) b.basis) (contains_first own new));
-        not_grown = (λ f. absurd (cc), λ m. absurd ((not_member it) m));
-        memory = tt;
-        never_falls = let h = a.never_falls in omega arith;
-        counts_growth = λ _. let h = a.never_falls in omega arith;
-        counts_no_more = λ f. absurd (cc);
-        counts_rows = let h = a.counts_rows in omega arith;
-        bounded = let h = a.bounded in omega (arith, t);
-      }
+      adds_own n old row own new before after it.normal (between_new new a.between a.added) (not_member it) a.never_falls a.counts_rows (let h = a.bounded in omega (arith, t))

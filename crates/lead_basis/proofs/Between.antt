@@ -1,13 +1,14 @@
 -- A basis between an old one and the old one with a row.
-use Rattle.std.proofs.Common.{inl, inr, ℕ, ◌-◌, ◌^◌, ◌<◌, List, ◌∷◌, All, Contains, arith}
+use Rattle.std.proofs.Common.{inl, inr, ℕ, ◌+◌, ◌-◌, ◌^◌, ◌<◌, ◌≤◌, true, false, List, ◌∷◌, length, All, Contains, Ok, refl, arith}
 use Rattle.std.proofs.lemmas.List.Elements.{All-weaker, All-contains_itself}
 use Rattle.word_rows.specs.Rows.{words_of, times, lead, IsRow}
 use Rattle.word_rows.proofs.Laws.{get_or_before_lead}
 use Rattle.row_modules.specs.Modules.{AreRows, IsCombination, IsWithin}
-use Rattle.row_modules.specs.Bases.{Leads, IsLeadingBasis}
+use Rattle.row_modules.specs.Bases.{Leads, IsLeadingBasis, basis_length}
 use Rattle.row_modules.proofs.Laws.{generator, combinations, module_multiple}
 use Rattle.row_modules.proofs.Laws.{contains_first, contains_later, first_or_later, rows_with, spans_more, within_from_generators}
-use Rattle.lead_basis.specs.Inserts.{IsBetween}
+use Rattle.lead_basis.specs.Remainders.{IsNormal}
+use Rattle.lead_basis.specs.Inserts.{IsBetween, Adds}
 use Rattle.lead_basis.proofs.Positions.{zero_at, zero_to, lead_above}
 use Rattle.lead_basis.proofs.Leading.{basis_rows}
 
@@ -82,3 +83,34 @@ module _ (n : ℕ) (old : List (List ℕ)) (row : List ℕ) (new : List (List �
 
 pub between_none : (n : ℕ) (old : List (List ℕ)) (row : List ℕ) → IsLeadingBasis n old → IsBetween n old row old
 between_none n old row b = record { basis = b; kept = λ v m. m; within = later_within n row old }
+
+-- a combination adds nothing
+pub adds_no_member : {E : Type 0} (n : ℕ) (old : List (List ℕ)) (row : List ℕ) (steps : ℕ) → IsLeadingBasis n old
+    → IsCombination n (Contains old) row → Adds {E = E} n old row old (Ok false) steps steps
+adds_no_member n old row steps basis member = record {
+  between = between_none n old row basis;
+  added = member;
+  not_grown = (λ f. member, λ m. refl);
+  memory = tt;
+  never_falls = omega arith;
+  counts_growth = λ h. absurd (cc);
+  counts_no_more = λ f. refl;
+  counts_rows = omega arith;
+  bounded = omega arith;
+}
+
+-- a row that was no combination, and whose normal form stands before the other rows
+pub adds_own : {E : Type 0} (n : ℕ) (old : List (List ℕ)) (row own : List ℕ) (new : List (List ℕ)) (before after : ℕ) → IsNormal n row own
+    → IsBetween n old row (own ∷ new) → ¬ IsCombination n (Contains old) row → before ≤ after → length new + before ≤ length old + after
+    → (after + 1) + basis_length old ≤ before + basis_length (own ∷ new) → Adds {E = E} n old row (own ∷ new) (Ok true) before (after + 1)
+adds_own n old row own new before after normal between no_member falls rows bounded = record {
+  between = between;
+  added = let e = normal.back in rw e (multiple_of n normal.inverse own (own ∷ new) (basis_rows n (own ∷ new) between.basis) (contains_first own new));
+  not_grown = (λ f. absurd (cc), λ m. absurd (no_member m));
+  memory = tt;
+  never_falls = omega arith;
+  counts_growth = λ _. omega arith;
+  counts_no_more = λ f. absurd (cc);
+  counts_rows = omega arith;
+  bounded = bounded;
+}

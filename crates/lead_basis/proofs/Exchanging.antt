@@ -9,12 +9,12 @@ use Rattle.word_rows.specs.Rows.{words_of, plus, times, lead, pivot}
 use Rattle.row_modules.specs.Modules.{IsCombination}
 use Rattle.row_modules.specs.Bases.{Leads, IsLeadingBasis}
 use Rattle.row_modules.proofs.Laws.{combination_sum}
-use Rattle.row_modules.proofs.Laws.{contains_first, with_multiple}
+use Rattle.row_modules.proofs.Laws.{with_multiple}
 use Rattle.lead_basis.specs.Inserts.{IsBetween, Adds}
 use Rattle.lead_basis.proofs.Powers.{exponent}
 use Rattle.lead_basis.proofs.Positions.{multiple_less}
 use Rattle.lead_basis.proofs.Leading.{basis_rows}
-use Rattle.lead_basis.proofs.Between.{multiple_of, later_within, within_with, later_leads, between_under, between_from}
+use Rattle.lead_basis.proofs.Between.{adds_own, later_within, within_with, later_leads, between_under, between_from}
 use Rattle.lead_basis.proofs.Smaller.{Exchanges, smaller, not_spanned, exchanged_later, quotient, all_rows, own_spanned, next_spanned}
 
 module _ {n : ℕ} {rest : List (List ℕ)} {first row own next : List ℕ} (it : Exchanges n rest first row own next) where
@@ -78,19 +78,9 @@ module _ {n : ℕ} {rest : List (List ℕ)} {first row own next : List ℕ} (it 
 
   pub adds_exchanged : {E : Type 0} (new : List (List ℕ)) (grew : Bool) (before after : ℕ) → Adds {E = E} n rest next new (Ok grew) before after → Adds {E = E} n (first ∷ rest) row (own ∷ new) (Ok true) before (after + 1)
   adds_exchanged new grew before after a =
-      let b = between_exchanged new a.between a.added in
       let s = (smaller it) in
       let small = it.leads.small in
       let t : trailing_zeros w64 (pivot own) ≡ it.normal.power = ap (λ (x : ℕ). trailing_zeros w64 x) it.normal.is_pivot ∙ exponent it.normal.power it.normal.small in
       let u : trailing_zeros w64 (pivot first) ≡ it.leads.power = ap (λ (x : ℕ). trailing_zeros w64 x) it.leads.is_pivot ∙ exponent it.leads.power it.leads.small in
-      record {
-        between = b;
-        added = let e = it.normal.back in rw e (multiple_of n it.normal.inverse own (own ∷ new) (basis_rows n (own ∷ new) b.basis) (contains_first own new));
-        not_grown = (λ f. absurd (cc), λ m. absurd ((not_spanned it) m));
-        memory = tt;
-        never_falls = let h = a.never_falls in omega arith;
-        counts_growth = λ _. let h = a.never_falls in omega arith;
-        counts_no_more = λ f. absurd (cc);
-        counts_rows = let h = a.counts_rows in omega arith;
-        bounded = let h = a.bounded in omega (arith, t, u);
-      }
+      adds_own n (first ∷ rest) row own new before after it.normal (between_exchanged new a.between a.added) (not_spanned it) a.never_falls
+      (let h = a.counts_rows in omega arith) (let h = a.bounded in omega (arith, t, u))

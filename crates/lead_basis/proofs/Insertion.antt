@@ -11,7 +11,7 @@ use Rattle.lead_basis.specs.Remainders.{TakesMultiple}
 use Rattle.lead_basis.specs.Inserts.{Adds}
 use Rattle.lead_basis.proofs.Normals.{has_normal}
 use Rattle.lead_basis.proofs.Taking.{taken_later}
-use Rattle.lead_basis.proofs.Between.{between_none}
+use Rattle.lead_basis.proofs.Between.{adds_no_member}
 use Rattle.lead_basis.proofs.Passing.{has_rest, takes_nothing, adds_passed}
 use Rattle.lead_basis.proofs.Preceding.{Precedes, closing_is_row, closing_later}
 use Rattle.lead_basis.proofs.Adding.{adds_new}
@@ -33,17 +33,7 @@ nothing_new n old row basis is past =
       new = old;
       grew = false;
       steps = 0;
-      adds = record {
-        between = between_none n old row basis;
-        added = none row z;
-        not_grown = (λ f. none row z, λ m. refl);
-        memory = tt;
-        never_falls = omega arith;
-        counts_growth = λ h. absurd (cc);
-        counts_no_more = λ f. refl;
-        counts_rows = omega arith;
-        bounded = omega arith;
-      };
+      adds = adds_no_member n old row 0 basis (none row z);
     }
 
 module _ (n : ℕ) (row : List ℕ) (is : IsRow n row) (inside : lead row < n) where

@@ -1,5 +1,5 @@
 -- Positions that a module has whole.
-use Rattle.std.proofs.Common.{set, subst, ◌≡◌, ℕ, zero, suc, ◌+◌, ◌-◌, ◌*◌, ◌^◌, ◌<◌, ◌≤◌, inl, inr, List, Contains, slice_index, replicate, length, Ok, false, refl, ap, sym, ◌∙◌, arith}
+use Rattle.std.proofs.Common.{set, subst, ◌≡◌, ℕ, zero, suc, ◌+◌, ◌-◌, ◌*◌, ◌^◌, ◌<◌, ◌≤◌, inl, inr, List, Contains, slice_index, replicate, length, ap, sym, ◌∙◌, arith}
 use native.Mathlib.Nat.{mul-mod_left}
 use Rattle.std.proofs.lemmas.Bool.{cases_eq}
 use Rattle.std.proofs.lemmas.Grind.{same_number_lists}
@@ -7,11 +7,8 @@ use Rattle.std.proofs.lemmas.List.{get_or_past, get_or-set_same, get_or-set_othe
 use Rattle.word_rows.specs.Rows.{words_of, plus, IsRow, unit}
 use Rattle.word_rows.proofs.Laws.{get_or-wrapped_plus, get_or-zeros, IsRow-zeros, IsRow-plus, IsRow-unit, unit_at, unit_elsewhere, IsRow-set, cleared_and_unit}
 use Rattle.row_modules.specs.Modules.{AreRows, IsCombination, IsWithin, none}
-use Rattle.row_modules.specs.Bases.{IsLeadingBasis}
 use Rattle.row_modules.proofs.Laws.{combination_sum, generator}
-use Rattle.lead_basis.specs.Inserts.{Adds}
 use Rattle.lead_basis.specs.Whole.{HasWhole, IsOn}
-use Rattle.lead_basis.proofs.Between.{between_none}
 
 -- no position is marked
 pub nothing_whole : (n : ℕ) (rows : List (List ℕ)) → HasWhole n rows (replicate n 0)
@@ -91,18 +88,3 @@ module _ (n : ℕ) (rows : List (List ℕ)) (are : AreRows n (Contains rows)) (m
           subst (IsCombination n (Contains rows))
           (same_number_lists _ (unit n j) (made.width ∙ sym (IsRow-unit n j).width) (λ k inside. let w = made.width in word_at k (omega arith)))
           (combination_sum n (Contains rows) are (2 ^ 64 - 1) row (set row j 0) (generator n (Contains rows) are row there) rest)
-
--- a member adds nothing
-pub adds_no_member : {E : Type 0} (n : ℕ) (old : List (List ℕ)) (row : List ℕ) (steps : ℕ) → IsLeadingBasis n old → IsRow n row
-    → IsCombination n (Contains old) row → Adds {E = E} n old row old (Ok false) steps steps
-adds_no_member n old row steps basis is member = record {
-  between = between_none n old row basis;
-  added = member;
-  not_grown = (λ f. member, λ m. refl);
-  memory = tt;
-  never_falls = omega arith;
-  counts_growth = λ h. absurd (cc);
-  counts_no_more = λ f. refl;
-  counts_rows = omega arith;
-  bounded = omega arith;
-}

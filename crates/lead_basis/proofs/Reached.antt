@@ -1,13 +1,16 @@
 -- The way past rows with earlier leads, and the places where it ends.
-use Rattle.std.proofs.Common.{◌≡◌, ℕ, zero, suc, ◌+◌, ◌-◌, ◌<◌, ◌≤◌, Bool, false, true, is_err, List, [], length, get_or, drop, replicate, All, Result, Ok, Err, refl, ap, sym, subst, ◌∙◌, arith, drop_of_length-le}
+use Rattle.std.proofs.Common.{◌≡◌, ℕ, zero, suc, ◌+◌, ◌-◌, ◌%◌, ◌<◌, ◌≤◌, Bool, false, true, is_err, List, [], length, get_or, slice_index, drop, replicate, All, Result, Ok, Err, refl, ap, sym, subst, ◌∙◌, arith, drop_of_length-le}
 use Rattle.std.specs.List.{AllWithin}
 use Rattle.std.proofs.Math.Seq.{drop-cons}
+use Rattle.std.proofs.lemmas.List.{get_or_default}
 use Rattle.std.proofs.lemmas.List.Elements.{All-nil, All-cons, All-weaker}
-use Rattle.word_rows.specs.Rows.{lead, IsRow}
+use Rattle.word_rows.specs.Rows.{lead, pivot, IsRow}
 use Rattle.row_modules.specs.Modules.{none}
 use Rattle.row_modules.specs.Bases.{Leads, IsLeadingBasis}
+use Rattle.lead_basis.specs.Remainders.{TakesMultiple}
 use Rattle.lead_basis.specs.Inserts.{AddsFrom, HasPassed, HasLead}
-use Rattle.lead_basis.proofs.Between.{between_none}
+use Rattle.lead_basis.proofs.Between.{adds_no_member}
+use Rattle.lead_basis.proofs.Taking.{taken_later}
 use Rattle.lead_basis.proofs.Passing.{takes_nothing}
 use Rattle.lead_basis.proofs.Places.{basis_after, adds_from_passed}
 
@@ -54,6 +57,14 @@ meets n from at position rows row other h is_lead basis is =
       same_lead = ap lead is ∙ h.here other ∙ is_lead;
     }
 
+-- what is left of a row, once the multiple of the row with its lead is taken, leads later
+pub left_leads_later : (n at : ℕ) (rows : List (List ℕ)) (row other by rest : List ℕ) → Meets n at rows row other → lead row < n → TakesMultiple n other row rest
+    → other ≡ get_or rows at other → by ≡ get_or rows at by → slice_index row (lead by) % pivot by ≡ 0 → lead row < lead rest
+left_leads_later n at rows row other by rest m inside takes is also divided =
+    let same : by ≡ other = also ∙ get_or_default rows at by other m.below ∙ sym is in
+    let at_other : slice_index row (lead other) % pivot other ≡ 0 = subst (λ (b : List ℕ). slice_index row (lead b) % pivot b ≡ 0) same divided in
+    taken_later n other row rest m.first.is_row m.same_lead inside takes (ap (λ (k : ℕ). slice_index rest k) (sym m.same_lead) ∙ takes.left ∙ at_other)
+
 pub later_at_end : (l at : ℕ) (rows : List (List ℕ)) → at ≡ length rows → All (λ r. l < lead r) (drop at rows)
 later_at_end l at rows e = let z = drop_of_length-le rows {i = at} (omega arith) in rw z (All-nil (λ r. l < lead r))
 
@@ -72,15 +83,5 @@ adds_from_any_err n from old row new (Err e) before after is h = h e
 pub adds_from_zero : {E : Type 0} (n from : ℕ) (old : List (List ℕ)) (before : ℕ) → IsLeadingBasis n (drop from old) → AddsFrom {E = E} n from old (replicate n 0) old (Ok false) before before
 adds_from_zero n from old before basis = record {
   front = refl;
-  adds = record {
-    between = between_none n (drop from old) (replicate n 0) basis;
-    added = none (replicate n 0) refl;
-    not_grown = (λ f. none (replicate n 0) refl, λ m. refl);
-    memory = tt;
-    never_falls = omega arith;
-    counts_growth = λ h. absurd (cc);
-    counts_no_more = λ f. refl;
-    counts_rows = omega arith;
-    bounded = omega arith;
-  };
+  adds = adds_no_member n (drop from old) (replicate n 0) before basis (none (replicate n 0) refl);
 }

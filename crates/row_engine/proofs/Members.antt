@@ -1,24 +1,12 @@
 -- Members of lists, and the rows of nodes.
-use Rattle.std.proofs.Common.{◌≡◌, ℕ, zero, suc, ◌<◌, ◌+◌, ◌⊎◌, inl, inr, true, is_err, List, [], ◌∷◌, ◌++◌, Contains, All, map, length, take, drop, get_or, Result, Ok, Err, refl, ap, sym, subst, ◌∙◌, arith}
+use Rattle.std.proofs.Common.{◌≡◌, ℕ, zero, suc, ◌<◌, ◌+◌, ◌⊎◌, inl, inr, true, is_err, List, [], ◌∷◌, ◌++◌, Contains, All, map, length, take, drop, get_or, Result, Ok, Err, ap, sym, subst, ◌∙◌}
 use Rattle.std.specs.Result.{OnOk}
 use Rattle.std.proofs.lemmas.List.Elements.{Contains-append_left, Contains-append_right, Contains-append_cases, All-head, All-tail}
 use Rattle.std.proofs.lemmas.List.{take_more, take-append-drop}
+pub use Rattle.row_modules.proofs.Laws.{nothing_contained as nothing_in, contains_first as first_in, contains_later as later_in, first_or_later as first_or_later_in}
 use Rattle.lead_basis.proofs.Laws.{basis_rows}
 use Rattle.row_modules.specs.Modules.{AreRows}
 use Rattle.row_modules.specs.Bases.{IsLeadingBasis}
-
-pub nothing_in : {X : Type 0} → (x : X) → Contains [] x → ⊥
-nothing_in x (k, h, e) = omega arith
-
-pub first_in : {X : Type 0} → (x : X) (xs : List X) → Contains (x ∷ xs) x
-first_in x xs = (0, omega arith, refl)
-
-pub later_in : {X : Type 0} → (y : X) (xs : List X) (x : X) → Contains xs x → Contains (y ∷ xs) x
-later_in y xs x h = Contains-append_right (y ∷ []) xs x h
-
-pub first_or_later_in : {X : Type 0} → (y : X) (xs : List X) (x : X) → Contains (y ∷ xs) x → (x ≡ y) ⊎ Contains xs x
-first_or_later_in y xs x (zero, h, e) = inl (sym e)
-first_or_later_in y xs x (suc k, h, e) = inr (k, omega arith, e)
 
 pub only_in : {X : Type 0} → (y x : X) → Contains (y ∷ []) x → x ≡ y
 only_in y x h = elim (first_or_later_in y [] x h) [ inl e ↦ e | inr k ↦ absurd (nothing_in x k) ]

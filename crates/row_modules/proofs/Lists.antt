@@ -1,4 +1,4 @@
--- Modules of the rows of a list, and of a list with one row more.
+-- Members of a list with one more, and modules of the rows of a list, and of a list with one row more.
 use Rattle.std.proofs.Common.{◌≡◌, ℕ, zero, suc, ◌+◌, ◌⊎◌, inl, inr, List, [], ◌∷◌, Contains, replicate, refl, ap, sym, ◌∙◌, arith}
 use Rattle.std.proofs.lemmas.List.Elements.{Contains-append_right}
 use Rattle.word_rows.specs.Rows.{words_of, IsRow, plus}
@@ -6,18 +6,18 @@ use Rattle.word_rows.proofs.Laws.{words_of-plus_first, plus-zero, plus-plus_comm
 use Rattle.row_modules.specs.Modules.{AreRows, IsCombination, none, more, IsWithin, SameModule}
 use Rattle.row_modules.proofs.Closure.{combinations, generator, module_least}
 
-pub contains_first : (row : List ℕ) (rows : List (List ℕ)) → Contains (row ∷ rows) row
-contains_first row rows = (0, omega arith, refl)
+pub nothing_contained : {X : Type 0} → (x : X) → Contains [] x → ⊥
+nothing_contained x (k, h, e) = omega arith
 
-pub contains_later : (row : List ℕ) (rows : List (List ℕ)) (v : List ℕ) → Contains rows v → Contains (row ∷ rows) v
-contains_later row rows v h = Contains-append_right (row ∷ []) rows v h
+pub contains_first : {X : Type 0} → (x : X) (xs : List X) → Contains (x ∷ xs) x
+contains_first x xs = (0, omega arith, refl)
 
-pub first_or_later : (row : List ℕ) (rows : List (List ℕ)) (v : List ℕ) → Contains (row ∷ rows) v → (v ≡ row) ⊎ Contains rows v
-first_or_later row rows v (zero, h, e) = inl (sym e)
-first_or_later row rows v (suc k, h, e) = inr (k, omega arith, e)
+pub contains_later : {X : Type 0} → (y : X) (xs : List X) (x : X) → Contains xs x → Contains (y ∷ xs) x
+contains_later y xs x h = Contains-append_right (y ∷ []) xs x h
 
-pub nothing_contained : (v : List ℕ) → Contains [] v → ⊥
-nothing_contained v (k, h, e) = omega arith
+pub first_or_later : {X : Type 0} → (y : X) (xs : List X) (x : X) → Contains (y ∷ xs) x → (x ≡ y) ⊎ Contains xs x
+first_or_later y xs x (zero, h, e) = inl (sym e)
+first_or_later y xs x (suc k, h, e) = inr (k, omega arith, e)
 
 pub rows_with : (n : ℕ) (row : List ℕ) (rows : List (List ℕ)) → IsRow n row → AreRows n (Contains rows) → AreRows n (Contains (row ∷ rows))
 rows_with n row rows p rest v h = elim (first_or_later row rows v h) [ inl e ↦ rw e p | inr k ↦ rest v k ]

@@ -1,15 +1,10 @@
 -- Sets of positions, and what is outside of them.
-use Rattle.std.proofs.Common.{◌≡◌, ℕ, zero, suc, ◌+◌, ◌-◌, ◌*◌, ◌^◌, ◌<◌, ◌≤◌, ◌⊎◌, inl, inr, Bool, true, false, ◌==◌, List, slice_index, get_or, replicate, length, max, bit_or, IsTrue, refl, ap, ap₂, sym, ◌∙◌, arith}
+use Rattle.std.proofs.Common.{◌≡◌, ℕ, ◌^◌, ◌<◌, ◌≤◌, ◌⊎◌, inl, inr, Bool, true, false, ◌==◌, List, slice_index, length, max, bit_or, IsTrue, refl, ap, sym, ◌∙◌, arith}
 use Rattle.std.specs.Int.{bit_at}
 use Rattle.std.proofs.lemmas.Bool.{cases_eq, cases_lt, eqb-true, false_from_ne_true, false≢true}
-use Rattle.std.proofs.lemmas.Grind.{same_number_lists}
 use Rattle.std.proofs.lemmas.List.{get_or_past}
-use Rattle.std.proofs.lemmas.Nat.Bits.{bit_at_or, bit_at-lt, bit_at-pow_same, bit_at-pow_other, bit_at_above, bit_at_ones}
-use Rattle.word_rows.specs.Words.{word}
-use Rattle.word_rows.specs.Rows.{words_of, plus, IsRow, unit}
-use Rattle.word_rows.proofs.Laws.{get_or-words_of, get_or-wrapped_plus, get_or-zeros, sum_zeros, IsRow-zeros, IsRow-plus, IsRow-unit, unit_at, unit_elsewhere}
-use Rattle.row_modules.specs.Modules.{AreRows, IsCombination, none, more, IsModule}
-use Rattle.row_modules.specs.Positions.{has, with_constant, IsZeroOutside, IsRowOn, IsUnitOn}
+use Rattle.std.proofs.lemmas.Nat.Bits.{bit_at_or, bit_at-lt, bit_at-pow_same, bit_at-pow_other, bit_at_above}
+use Rattle.row_modules.specs.Positions.{has, with_constant, IsZeroOutside}
 
 pub in_or_out : (s i : ℕ) → IsTrue (has s i) ⊎ (has s i ≡ false)
 in_or_out s i = decided (has s i)

@@ -1,17 +1,14 @@
 -- The rows that are 0 outside a set of positions: a module that the unit rows at its positions generate.
-use Rattle.std.proofs.Common.{set, subst, ◌≡◌, ℕ, zero, suc, ◌+◌, ◌-◌, ◌*◌, ◌^◌, ◌<◌, ◌≤◌, ◌⊎◌, inl, inr, Bool, true, false, ◌==◌, List, slice_index, get_or, replicate, length, max, bit_or, IsTrue, refl, ap, ap₂, sym, ◌∙◌, arith}
-use Rattle.std.specs.Int.{bit_at}
-use Rattle.std.proofs.lemmas.Bool.{cases_eq, cases_lt, eqb-true, false_from_ne_true, false≢true}
+use Rattle.std.proofs.Common.{set, subst, ◌≡◌, ℕ, zero, suc, ◌-◌, ◌^◌, ◌<◌, ◌≤◌, inl, inr, ◌==◌, List, slice_index, replicate, IsTrue, refl, ap, sym, ◌∙◌, arith}
+use Rattle.std.proofs.lemmas.Bool.{cases_eq, cases_lt}
 use Rattle.std.proofs.lemmas.Grind.{same_number_lists}
 use Rattle.std.proofs.lemmas.List.{get_or_past, get_or-set_same, get_or-set_other, set-get_or}
-use Rattle.std.proofs.lemmas.Nat.Bits.{bit_at_or, bit_at-lt, bit_at-pow_same, bit_at-pow_other, bit_at_above, bit_at_ones}
-use Rattle.word_rows.specs.Words.{word}
-use Rattle.word_rows.specs.Rows.{words_of, plus, IsRow, unit}
-use Rattle.word_rows.proofs.Laws.{get_or-words_of, get_or-wrapped_plus, get_or-zeros, sum_zeros, IsRow-zeros, IsRow-plus, IsRow-unit, unit_at, unit_elsewhere, IsRow-set, cleared_and_unit}
+use Rattle.std.proofs.lemmas.Nat.Bits.{bit_at_ones}
+use Rattle.word_rows.specs.Rows.{IsRow, unit}
+use Rattle.word_rows.proofs.Laws.{get_or-wrapped_plus, get_or-zeros, sum_zeros, IsRow-zeros, IsRow-plus, IsRow-unit, unit_elsewhere, IsRow-set, cleared_and_unit}
 use Rattle.row_modules.specs.Modules.{AreRows, SameModule, IsCombination, none, more, IsModule}
-use Rattle.row_modules.specs.Positions.{has, with_constant, IsZeroOutside, IsRowOn, IsUnitOn}
+use Rattle.row_modules.specs.Positions.{has, IsRowOn, IsUnitOn}
 use Rattle.row_modules.proofs.Sets.{in_or_out, in_not_out}
-use Rattle.row_modules.proofs.Closure.{combinations, generator, module_least}
 use Rattle.row_modules.proofs.Lists.{spans_more, within_from_generators}
 
 pub units_are_rows : (n s : ℕ) → AreRows n (IsUnitOn n s)

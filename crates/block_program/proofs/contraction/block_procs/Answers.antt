@@ -6,26 +6,19 @@ use Rattle.std.proofs.lemmas.List.Elements.{all_zip_more}
 use Rattle.affine_prog.specs.declared.Proc.{Proc}
 use Rattle.block_program.specs.BlockPrograms.{IsBlockProc}
 use Rattle.block_program.specs.Numbers.{IsNumber}
+use Rattle.block_program.proofs.Procs.{place_read}
 use Rattle.block_program.proofs.Placed.{entry_is_head, exit_is_head, head_number}
 use Rattle.block_program.proofs.contraction.block_procs.Goals as goal
 
 pub number_of-entry-requires : goal.number_of-entry-requires
 number_of-entry-requires c =
-    let k = c.loop-proc.proc-index in
-    let d : Proc = record { entry = 0; exit = 0; slots = 0 } in
-    let within : k < length c.args.program.now.procs = omega (arith, c.loop-proc-test.true, ap length c.as_slice-proc-items.ensures) in
-    let h = entry_is_head c.args.program.now c.requires.formed k d within in
-    let same = ap (λ (xs : List Proc). (slice_index_or xs k d).entry) c.as_slice-proc-items.ensures in
-    omega (arith, h.node, same, c.requires.numbers.long)
+    let h = entry_is_head c.args.program.now c.requires.formed c.loop-proc.proc-index (record { entry = 0; exit = 0; slots = 0 }) (place_read _ _ _ c.as_slice-proc-items.ensures c.loop-proc-test.true) in
+    omega (arith, h.node, ap (λ (ps : List Proc). (slice_index_or ps c.loop-proc.proc-index (record { entry = 0; exit = 0; slots = 0 })).entry) c.as_slice-proc-items.ensures, c.requires.numbers.long)
 
 pub number_of-exit-requires : goal.number_of-exit-requires
 number_of-exit-requires c =
-    let k = c.loop-proc.proc-index in
-    let d : Proc = record { entry = 0; exit = 0; slots = 0 } in
-    let within : k < length c.args.program.now.procs = omega (arith, c.loop-proc-test.true, ap length c.as_slice-proc-items.ensures) in
-    let h = exit_is_head c.args.program.now c.requires.formed k d within in
-    let same = ap (λ (xs : List Proc). (slice_index_or xs k d).exit) c.as_slice-proc-items.ensures in
-    omega (arith, h.node, same, c.requires.numbers.long)
+    let h = exit_is_head c.args.program.now c.requires.formed c.loop-proc.proc-index (record { entry = 0; exit = 0; slots = 0 }) (place_read _ _ _ c.as_slice-proc-items.ensures c.loop-proc-test.true) in
+    omega (arith, h.node, ap (λ (ps : List Proc). (slice_index_or ps c.loop-proc.proc-index (record { entry = 0; exit = 0; slots = 0 })).exit) c.as_slice-proc-items.ensures, c.requires.numbers.long)
 
 pub loop-proc-preserved : goal.loop-proc-preserved
 loop-proc-preserved c =

@@ -1,6 +1,5 @@
 use Rattle.std.proofs.Common.{refl}
-use Rattle.block_program.proofs.Inner.{open_comes, open_goes, unique_chain}
-use Rattle.block_program.proofs.PassedOn.{passed_on}
+use Rattle.block_program.proofs.Inner.{open_comes, open_goes}
 use Rattle.block_program.proofs.InnerModules.{module_follows, places_few}
 use Rattle.block_program.proofs.laws.inner_nodes_follow.Goals as goal
 
@@ -9,12 +8,6 @@ returns-clause-states c = λ program u v assigns inner contains start state. (
   open_comes program u v assigns inner contains start v state refl,
   open_goes program u v assigns inner contains start state,
 )
-
-pub returns-clause-chains : goal.returns-clause-chains
-returns-clause-chains c = unique_chain
-
-pub returns-clause-passed_on : goal.returns-clause-passed_on
-returns-clause-passed_on c = passed_on
 
 pub returns-clause-modules : goal.returns-clause-modules
 returns-clause-modules c = module_follows

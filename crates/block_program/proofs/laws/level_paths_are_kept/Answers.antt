@@ -1,10 +1,6 @@
 use Rattle.block_program.proofs.Forward.{forward}
 use Rattle.block_program.proofs.Back.{along_back}
-use Rattle.block_program.proofs.HeadsTell.{maps_at}
 use Rattle.block_program.proofs.laws.level_paths_are_kept.Goals as goal
-
-pub returns-clause-heads : goal.returns-clause-heads
-returns-clause-heads c = maps_at
 
 pub returns-clause-chains : goal.returns-clause-chains
 returns-clause-chains c = λ program heads small w blocks p i u chain m within leads. (

@@ -1,10 +1,6 @@
 use Rattle.block_program.proofs.Forward.{open_forward}
 use Rattle.block_program.proofs.Back.{open_along_back}
-use Rattle.block_program.proofs.HeadsTell.{states_at}
 use Rattle.block_program.proofs.laws.open_paths_are_kept.Goals as goal
-
-pub returns-clause-heads : goal.returns-clause-heads
-returns-clause-heads c = states_at
 
 pub returns-clause-chains : goal.returns-clause-chains
 returns-clause-chains c = λ program heads small w blocks start i u chain v within leads. (

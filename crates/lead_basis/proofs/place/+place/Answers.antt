@@ -1,15 +1,13 @@
 use Rattle.std.proofs.Common.{rules, ◌≡◌, ◌≢◌, ◌<◌, ◌≤◌, ◌%◌, length, drop, slice_index, All, ℕ, List, ap, sym, subst, refl, ◌∙◌, arith, add-one}
 use Rattle.std.proofs.lemmas.Bool.{false≢true}
-use Rattle.std.proofs.lemmas.List.{get_or_default}
 use Rattle.std.proofs.lemmas.List.Elements.{at_read}
 use Rattle.word_rows.specs.Rows.{lead, pivot}
 use Rattle.lead_basis.specs.Remainders.{TakesMultiple}
 use Rattle.lead_basis.specs.Inserts.{HasLead, LacksLead}
-use Rattle.lead_basis.proofs.Taking.{taken_later}
 use Rattle.lead_basis.proofs.Preceding.{precedes, closing_is_row, closing_later}
 use Rattle.lead_basis.proofs.Smaller.{exchanged_later}
 use Rattle.lead_basis.proofs.Places.{basis_after, exchanges, adds_from_passed, adds_from_refused, adds_from_exchanged, adds_from_kept, adds_from_new}
-use Rattle.lead_basis.proofs.Reached.{basis_reached, adds_from_reached, meets, adds_from_any_err, adds_from_zero}
+use Rattle.lead_basis.proofs.Reached.{basis_reached, adds_from_reached, meets, left_leads_later, adds_from_any_err, adds_from_zero}
 use Rattle.lead_basis.proofs.Writing.{set_cases, insert_cases, writes_own}
 use Rattle.lead_basis.proofs.place.+place.Goals as goal
 
@@ -92,18 +90,13 @@ place-returns-in-Err-clause-adds g t c =
     adds_from_reached g.row.N c.args.from c.in-Err.at c.in-Some.lead c.args.rows.now.items c.args.row.now c.add.new.rows.items c.add.result c.args.steps.now c.add.new.steps
     lacks.reached c.in-Some.ensures.first c.requires.basis c.known.ensures.row c.add.ensures.adds
 
-same_divided : (row by also : List ℕ) → by ≡ also → slice_index row (lead by) % pivot by ≡ 0 → slice_index row (lead also) % pivot also ≡ 0
-same_divided row by also same e = subst (λ (b : List ℕ). slice_index row (lead b) % pivot b ≡ 0) same e
-
 pub place-place-requires : goal.place-place-requires
 place-place-requires g t c κs within =
     let has = subst (λ (x : List (List ℕ)). HasLead x c.args.from c.in-Some.lead c.in-Ok.at) c.deref.ensures.value c.in-Ok.ensures in
     let is_lead = c.in-Some.ensures.first in let inside = c.in-Some.ensures.within in
     let m = meets g.row.N c.args.from c.in-Ok.at c.in-Some.lead c.args.rows.now.items c.args.row.now c.index-then-divides.result.now has is_lead c.requires.basis c.index-then-divides.ensures in
     let takes = c.take_multiple.ensures m.first.within in
-    let left : slice_index c.take_multiple.new.row (lead c.args.row.now) ≡ 0 =
-    ap (λ (k : ℕ). slice_index c.take_multiple.new.row k) (sym m.same_lead) ∙ takes.left ∙ same_divided c.args.row.now c.index.result.now c.index-then-divides.result.now (c.index.ensures ∙ get_or_default c.args.rows.now.items c.in-Ok.at c.index.result.now c.index-then-divides.result.now m.below ∙ sym c.index-then-divides.ensures) (c.divides.ensures.0 c.if-divides.true) in
-    let later = taken_later g.row.N c.index-then-divides.result.now c.args.row.now c.take_multiple.new.row m.first.is_row m.same_lead (omega arith) takes left in
+    let later = left_leads_later g.row.N c.in-Ok.at c.args.rows.now.items c.args.row.now c.index-then-divides.result.now c.index.result.now c.take_multiple.new.row m (omega arith) takes c.index-then-divides.ensures c.index.ensures (c.divides.ensures.0 c.if-divides.true) in
     let v = takes.is_row.width in let u = c.known.ensures.row.width in let below = m.below in let ok = c.args.rows.now.ok in
     (omega arith, (search rules, (within, (search rules, (omega arith, rw add-one m.rest)))))
 
@@ -113,9 +106,7 @@ place-returns-then-divides-clause-adds g t c =
     let is_lead = c.in-Some.ensures.first in let inside = c.in-Some.ensures.within in
     let m = meets g.row.N c.args.from c.in-Ok.at c.in-Some.lead c.args.rows.now.items c.args.row.now c.index-then-divides.result.now has is_lead c.requires.basis c.index-then-divides.ensures in
     let takes = c.take_multiple.ensures m.first.within in
-    let left : slice_index c.take_multiple.new.row (lead c.args.row.now) ≡ 0 =
-    ap (λ (k : ℕ). slice_index c.take_multiple.new.row k) (sym m.same_lead) ∙ takes.left ∙ same_divided c.args.row.now c.index.result.now c.index-then-divides.result.now (c.index.ensures ∙ get_or_default c.args.rows.now.items c.in-Ok.at c.index.result.now c.index-then-divides.result.now m.below ∙ sym c.index-then-divides.ensures) (c.divides.ensures.0 c.if-divides.true) in
-    let later = taken_later g.row.N c.index-then-divides.result.now c.args.row.now c.take_multiple.new.row m.first.is_row m.same_lead (omega arith) takes left in
+    let later = left_leads_later g.row.N c.in-Ok.at c.args.rows.now.items c.args.row.now c.index-then-divides.result.now c.index.result.now c.take_multiple.new.row m (omega arith) takes c.index-then-divides.ensures c.index.ensures (c.divides.ensures.0 c.if-divides.true) in
     let same = m.same_lead in let is = ap lead c.index-then-divides.ensures in
     adds_from_reached g.row.N c.args.from c.in-Ok.at c.in-Some.lead c.args.rows.now.items c.args.row.now c.place.new.rows.items c.place.result c.args.steps.now c.place.new.steps
     has.reached is_lead c.requires.basis c.known.ensures.row

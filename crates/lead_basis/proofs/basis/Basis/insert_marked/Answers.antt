@@ -6,7 +6,8 @@ use Rattle.lead_basis.specs.Whole.{HasWhole}
 use Rattle.lead_basis.specs.declared.Memory.{Memory}
 use Rattle.lead_basis.proofs.Growing.{adds_same_module, adds_growth}
 use Rattle.lead_basis.proofs.Leading.{basis_rows}
-use Rattle.lead_basis.proofs.Marked.{adds_no_member, on_is_member}
+use Rattle.lead_basis.proofs.Between.{adds_no_member}
+use Rattle.lead_basis.proofs.Marked.{on_is_member}
 use Rattle.lead_basis.proofs.basis.Basis.insert_marked.Goals as goal
 
 pub returns-then-is_on-clause-adds : goal.returns-then-is_on-clause-adds
@@ -15,7 +16,7 @@ returns-then-is_on-clause-adds g c =
     let basis : IsLeadingBasis n c.args.self.now = subst (IsLeadingBasis n) c.self.view_is c.self.invariant.2 in
     let whole : HasWhole n c.args.self.now c.self.inside.whole = subst (λ (rows : List (List ℕ)). HasWhole n rows c.self.inside.whole) c.self.view_is c.self.invariant.3 in
     let member = on_is_member n c.args.self.now (basis_rows n c.args.self.now basis) c.self.inside.whole whole c.args.row c.known.ensures.row (c.is_on.ensures c.if-is_on.true) in
-    adds_no_member n c.args.self.now c.args.row c.args.steps.now basis c.known.ensures.row member
+    adds_no_member n c.args.self.now c.args.row c.args.steps.now basis member
 
 pub returns-then-is_on-clause-same_module : goal.returns-then-is_on-clause-same_module
 returns-then-is_on-clause-same_module g c =
