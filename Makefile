@@ -12,7 +12,7 @@ STEPS = 1000
 REGS =
 export REPORT STEPS REGS
 
-.PHONY: help demo analyse cert list run upgrade build test large bench edits
+.PHONY: help demo analyse cert list run upgrade narrow build test large bench edits
 
 help:
 	@echo 'make demo                       the report of $(EXAMPLE)    1 to 2 minutes, mostly compiling'
@@ -21,13 +21,14 @@ help:
 	@echo 'make list FILE=F                the code of F that can be reached              1 to 2 minutes, mostly compiling'
 	@echo 'make run FILE=F REPORT=R STEPS=N REGS=..  a run of F against the report R, with these registers      1 to 2 minutes, mostly compiling'
 	@echo 'make upgrade FILE=F REPORT=R    the report R with certificates                 1 to 2 minutes, mostly compiling'
+	@echo 'make narrow FILE=F TRACK=LIST   relations of the low 32 bits for the names of LIST   1 to 2 minutes, mostly compiling'
 	@echo 'make build                      proves and builds the program                  half an hour or more where nothing is kept'
 	@echo 'make bench                      times of the built program on files of growing size   some seconds'
 	@echo 'make large                      the built program on inputs near the limits, compared whole   half a minute'
 	@echo 'make test                       the whole test, rt ci                          an hour or more where nothing is kept'
 	@echo 'make edits                      further wrong bodies, each of which the proof must refuse     half an hour or more'
 	@echo
-	@echo 'demo, analyse, cert, list, run and upgrade build anew and prove nothing; rt ci proves the same sources.'
+	@echo 'demo, analyse, cert, list, run, upgrade and narrow build anew and prove nothing; rt ci proves the same sources.'
 	@echo 'make build leaves the program at $(PROGRAM); run it as'
 	@echo '  $(PROGRAM) analyse FILE --track LIST'
 
@@ -61,6 +62,9 @@ run:
 
 upgrade:
 	$(call unproved,upgrade file.elf file.report)
+
+narrow:
+	$(call unproved,narrow file.elf --track "$$TRACK")
 
 build:
 	@cd crates/analyser_main && rt run -- list ../../examples/one_register.elf

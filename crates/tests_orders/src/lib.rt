@@ -11,6 +11,8 @@ mod code_tests;
 #[cfg(test)]
 mod compressed_tests;
 #[cfg(test)]
+mod narrow_tests;
+#[cfg(test)]
 mod order_tests;
 #[cfg(test)]
 mod report_tests;
