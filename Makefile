@@ -17,7 +17,7 @@ INSTALLED = affine-relations=analyser_main
 PREFIX = /usr/local
 DESTDIR =
 
-.PHONY: help demo analyse cert list run upgrade build install test large hostile faults readme bench edits
+.PHONY: help demo analyse cert list run upgrade narrow build install test large hostile faults readme bench edits
 
 help:
 	@echo 'make demo                       what the program tells of $(EXAMPLE)'
@@ -26,6 +26,7 @@ help:
 	@echo 'make list FILE=F                the code of F that can be reached'
 	@echo 'make run FILE=F REPORT=R STEPS=N REGS=..  a run of F against the report R, with these registers'
 	@echo 'make upgrade FILE=F REPORT=R    the report R with certificates'
+	@echo 'make narrow FILE=F TRACK=LIST   relations of the low 32 bits of the names of LIST'
 	@echo
 	@echo 'These run the program that make build made, at once, where no source is newer than it; else each compiles the'
 	@echo 'sources anew, without proofs: 67 to 114 s where it was measured, with four processors.'
@@ -60,6 +61,9 @@ run:
 
 upgrade:
 	@tools/order upgrade
+
+narrow:
+	@tools/order narrow --track "$$TRACK"
 
 build:
 	@cd crates/analyser_main && rt run -- list ../../examples/one_register.elf

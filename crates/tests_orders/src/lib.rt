@@ -13,6 +13,8 @@ mod compressed_tests;
 #[cfg(test)]
 mod fault_tests;
 #[cfg(test)]
+mod narrow_tests;
+#[cfg(test)]
 mod order_tests;
 #[cfg(test)]
 mod report_tests;

@@ -64,7 +64,7 @@ const ORDERS: [(&str, &str); 54] = [
 ];
 
 // The same of words that name a report.
-const REPORT_ORDERS: [(&str, &str); 22] = [
+const REPORT_ORDERS: [(&str, &str); 24] = [
     ("run|f|r|--steps|7", "run f r 7"),
     ("run|f|r|--steps|7|--regs|a0=1", "run f r 7 a0=1"),
     ("run|--regs=a0=1|f|--steps=0|r", "run f r 0 a0=1"),
@@ -85,6 +85,8 @@ const REPORT_ORDERS: [(&str, &str); 22] = [
     ("run|f|r|s|--steps|7", "usage"),
     ("upgrade|f|r", "upgrade f r"),
     ("upgrade|f|--|-r", "upgrade f -r"),
+    ("narrow|f|--track|a0", "narrow f a0"),
+    ("narrow|f", "usage"),
     ("upgrade|f", "usage"),
     ("upgrade|f|r|--track|a0", "usage"),
 ];
@@ -124,6 +126,7 @@ fn push_order(text: &mut Vec<u8>, order: Order) -> Result<(), AllocError> {
             push_words(text, &["", list])
         }
         Order::Upgrade { file, report } => push_words(text, &["upgrade", file, report]),
+        Order::Narrow { file, list } => push_words(text, &["narrow", file, list]),
     }
 }
 

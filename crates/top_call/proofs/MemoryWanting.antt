@@ -1,6 +1,6 @@
 -- Each order may end for want of memory.
 use Rattle.std.proofs.Common.{ℕ}
-use Rattle.orders.specs.Orders.{Order, Usage, Analyse, Certify, ListCode, CheckRun, Generate, Upgrade}
+use Rattle.orders.specs.Orders.{Order, Usage, Analyse, Certify, ListCode, CheckRun, Generate, Upgrade, Narrow}
 use Rattle.call_ends.specs.Calls.{Call, SaysIn, no_memory, no_memory_text}
 use Rattle.top_call.specs.Answers.{IsCarriedOut, no_start}
 
@@ -12,3 +12,4 @@ memory_wanting (ListCode file) c answer said = no_memory answer said
 memory_wanting (CheckRun file report steps regs) c answer said = no_start said
 memory_wanting (Generate n list) c answer said = no_memory answer said
 memory_wanting (Upgrade file report) c answer said = no_memory answer said
+memory_wanting (Narrow file list) c answer said = no_memory answer said
