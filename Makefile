@@ -13,7 +13,8 @@ REGS =
 export REPORT STEPS REGS
 
 # The programs that are installed: each name, and the crate that it is.
-INSTALLED = affine-relations=analyser_main
+INSTALLED = \
+	affine-relations=analyser_main
 PREFIX = /usr/local
 DESTDIR =
 

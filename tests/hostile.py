@@ -411,20 +411,21 @@ def full_outputs(place):
 
 
 def outputs_with_little_room(place):
-    """Room for n bytes, for n below the text's length: a front of the text, and status 4."""
+    """Room for n bytes, for n below the text's length: a front of the text, and status 4, or the system's signal for it."""
     for order in ORDERS:
         place.put_report(order)
         text = ORDERS[order][2]
         for n in {0, 1, 10, len(text) // 2, len(text) - 1}:
-            with open(place.path("out"), "wb") as out:
-                ends_with(place, order, 4, out, f"with room for {n}", preexec_fn=limited(n))
-            with open(place.path("out"), "rb") as out:
-                place.wants(f"{order} with room for {n}", text[:n], out.read().decode())
+            for handler, status in [(signal.SIG_IGN, 4), (signal.SIG_DFL, -signal.SIGXFSZ)]:
+                with open(place.path("out"), "wb") as out:
+                    ends_with(place, order, status, out, f"with room for {n}", restore_signals=False, preexec_fn=limited(n, handler))
+                with open(place.path("out"), "rb") as out:
+                    place.wants(f"{order} with room for {n}", text[:n], out.read().decode())
 
 
-def limited(n):
+def limited(n, handler):
     def limit():
-        signal.signal(signal.SIGXFSZ, signal.SIG_IGN)
+        signal.signal(signal.SIGXFSZ, handler)
         resource.setrlimit(resource.RLIMIT_FSIZE, (n, n))
     return limit
 
