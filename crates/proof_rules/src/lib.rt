@@ -4,6 +4,10 @@
 //! has the rules that these rows have to pass; `laws` has what follows: each map of a level path, and each state of an open
 //! path, is a combination of them, so that what vanishes on them holds. How a file is read and how the rules are tried is
 //! left to the crates above.
+//!
+//! ```text
+//! claims_hold(); // where the rows pass the rules, each claimed row holds after every open path
+//! ```
 #![tactic(auto)]
 
 mod laws;

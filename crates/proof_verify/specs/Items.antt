@@ -4,6 +4,7 @@
 --   step_rule small levels e            the rule of steps for an edge that calls nothing; nothing for a call
 --   call_rule small levels e            the rule of calls for a call; nothing for another edge
 --   entry_rule small levels entries e   the rule of what calls hand over, for a call; nothing for another edge
+--   step_rule_of, call_rule_of, entry_rule_of    the same by the ends of an edge and its kind
 --   IsFirstWithout P n i                i is the first number below n without P
 --   IsFirst P n first                   first is the first number below n without P, or all have it
 use Rattle.std.specs.Prelude.{ℕ, ◌<◌, List, [], MatchOption, Option, slice_index_or}

@@ -263,8 +263,33 @@ fn claim_of(alloc: Global, node: u32, words: Words) -> Result<Claim, Memory> {
     }
 }
 
-/// Whether a proof has this verdict.
+/// Whether bases and a claim have this verdict.
 fn has_verdict<L: Ledger>(
+    alloc: Global,
+    program: &Program,
+    levels: &[MatBasis],
+    entries: &[Basis<17>],
+    claim: Claim,
+    first: Option<Breach>,
+    steps: &mut Steps<L>,
+) -> Result<bool, Memory> {
+    if !well_formed(program)
+        || claim.node >= program.nodes
+        || entries.len() != program.procs.len()
+    {
+        return Ok(false);
+    }
+    let blocks = contract(alloc, program)?;
+    if levels.len() != blocks.small().nodes as usize {
+        return Ok(false);
+    }
+    let claims = [claim];
+    let found = first_breach(alloc, program, &blocks, levels, entries, &claims, steps)?;
+    Ok(found == first)
+}
+
+/// Whether a proof has this verdict.
+fn is_told<L: Ledger>(
     alloc: Global,
     program: &Program,
     proof: &Proof,
@@ -272,18 +297,18 @@ fn has_verdict<L: Ledger>(
     steps: &mut Steps<L>,
 ) -> Result<bool, Memory> {
     let (levels, entries, (node, words)) = *proof;
-    if !well_formed(program) || node >= program.nodes || entries.len() != program.procs.len() {
-        return Ok(false);
-    }
-    let blocks = contract(alloc, program)?;
-    if levels.len() != blocks.small().nodes as usize {
-        return Ok(false);
-    }
     let levels = levels_of(alloc, levels, steps)?;
     let entries = entries_of(alloc, entries, steps)?;
-    let claims = [claim_of(alloc, node, words)?];
-    let found = first_breach(alloc, program, &blocks, &levels, &entries, &claims, steps)?;
-    Ok(found == first)
+    let claim = claim_of(alloc, node, words)?;
+    has_verdict(
+        alloc,
+        program,
+        levels.as_slice(),
+        entries.as_slice(),
+        claim,
+        first,
+        steps,
+    )
 }
 
 fn have_verdicts<L: Ledger>(
@@ -301,7 +326,7 @@ fn have_verdicts<L: Ledger>(
         return Err(Memory);
     };
     for (proof, first) in table.iter() {
-        if !has_verdict(alloc, &program, proof, *first, &mut steps)? {
+        if !is_told(alloc, &program, proof, *first, &mut steps)? {
             return Ok(false);
         }
     }
