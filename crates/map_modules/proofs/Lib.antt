@@ -1,5 +1,6 @@
 pub mod Sums
 pub mod Entries
+pub mod Rowwise
 pub mod Linear
 pub mod Conditions
 pub mod Products

@@ -1,2 +1,3 @@
 pub mod Matrices
 pub mod Laws
+pub mod RowSums

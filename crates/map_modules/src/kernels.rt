@@ -3,6 +3,7 @@
 ghost use Rattle.std.specs.Prelude.{◌≡◌, ℕ, ◌+◌, ◌*◌, ◌/◌, ◌<◌, length, slice_index, if◌then◌else◌, ◌==◌};
 ghost use Rattle.word_rows.specs.Words.{word};
 ghost use Rattle.map_modules.specs.Matrices.{cell, entry, sum_below};
+ghost use Rattle.map_modules.specs.RowSums.{HasAdded, AddsTimesRow};
 
 use crate::Mat;
 use word_rows::Row;
@@ -17,18 +18,30 @@ pub fn cell<const N: usize>(v: &Row<N>, i: usize, j: usize) -> u64
     v.get(N / 17 * i + j)
 }
 
-/// Row i of a map times column j of a matrix.
-pub fn row_by_column<const N: usize>(m: &Mat, i: usize, v: &Row<N>, j: usize) -> u64
+/// Adds c times row l of a matrix to row i of another. Where c is 0 nothing is read.
+pub fn add_times_row<const N: usize>(words: &mut [u64; N], i: usize, c: u64, v: &Row<N>, l: usize)
     requires whole { N ≡ 17 * (N / 17) }
     requires row { i < 17 }
-    requires column { j < N / 17 }
-    ensures { result ≡ word (sum_below 17 (λ k. entry m.now i k * cell (N / 17) v.now k j)) }
+    requires from { l < 17 }
+    ensures { AddsTimesRow (N / 17) i c v.now l words.old words.new }
 {
-    let mut sum = 0u64;
-    for k in 0..17usize {
-        sum = sum.wrapping_add(m.get(17 * i + k).wrapping_mul(cell(v, k, j)));
+    if c != 0 {
+        add_products(words, i, c, v, l);
     }
-    sum
+}
+
+// So it is for any c.
+fn add_products<const N: usize>(words: &mut [u64; N], i: usize, c: u64, v: &Row<N>, l: usize)
+    requires whole { N ≡ 17 * (N / 17) }
+    requires row { i < 17 }
+    requires from { l < 17 }
+    ensures { HasAdded (N / 17) i c v.now l (N / 17) words.old words.new }
+{
+    let columns = N / 17;
+    for j in 0..columns {
+        let at = columns * i + j;
+        words[at] = words[at].wrapping_add(c.wrapping_mul(cell(v, l, j)));
+    }
 }
 
 /// A row of words times column j of a matrix.

@@ -4,7 +4,7 @@ ghost use Rattle.std.specs.Prelude.{◌≡◌, ◌*◌, ◌/◌, ◌<◌, ◌≤
 ghost use Rattle.map_modules.specs.Matrices.{identity, moved, product, apply, assigned};
 
 use crate::Mat;
-use crate::kernels::{assigned_word, matrix_from, row_by_column};
+use crate::kernels::{add_times_row, assigned_word, matrix_from};
 use word_rows::Row;
 
 /// The map that keeps the positions below width and the constant, and clears the others.
@@ -27,10 +27,11 @@ pub fn moved<const N: usize>(m: &Mat, v: &Row<N>) -> Row<N>
     ensures { result ≡ moved (N / 17) m.now v.now }
 {
     v.known();
-    let columns = N / 17;
     let mut words = [0u64; N];
-    for (at, word) in words.iter_mut().enumerate() {
-        *word = row_by_column(m, at / columns, v, at % columns);
+    for i in 0..17usize {
+        for l in 0..17usize {
+            add_times_row(&mut words, i, m.get(17 * i + l), v, l);
+        }
     }
     Row::from_words(&words)
 }

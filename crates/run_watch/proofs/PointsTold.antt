@@ -5,6 +5,7 @@ use Rattle.std.specs.declared.cmp.Ordering.TheVariants.{Equal}
 use Rattle.std.specs.List.Sorted.{IsBinarySearchResult, IsSortedBy}
 use Rattle.std.proofs.lemmas.Bool.{cases_lt, and_parts, and_from, false_from_ne_true, eqb-true, eq-eqb}
 use Rattle.std.proofs.lemmas.Cmp.{tied_itself}
+use Rattle.std.proofs.lemmas.Option.{get_or_from_slice_get, slice_get_within}
 use Rattle.std.proofs.lemmas.List.Elements.{All-tail}
 use Rattle.std.proofs.lemmas.List.Folds.{find_at}
 use Rattle.std.proofs.lemmas.List.Sorted.{searchable_from_sorted}
@@ -60,3 +61,9 @@ told_nowhere told p i up found =
       | inl h ↦ let less = place.0 k d (omega arith) h in cc
       | inr h ↦ let greater = place.1 k d h within in cc
     ])))
+
+pub told_here : (told : List PointRows) (p : Point) (i : ℕ) (t : PointRows) → Ascend told → slice_get told i ≡ Some t → point_of t ≡ p
+    → slice_get told i ≡ find (is_told_of p) told
+told_here told p i t up is same =
+    told_there told p i up (slice_get_within told i t is) (λ d.
+    subst (λ (q : Point). point_cmp q p ≡ Equal) (sym (ap point_of (get_or_from_slice_get told i t d is) ∙ same)) (tied_itself total p))

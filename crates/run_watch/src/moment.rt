@@ -45,7 +45,7 @@ pub(crate) fn context<'a>(
     ensures { Describes (scene_of points.now offsets.now report.now code.now) (record { machine = machine.now; stack = stack.now }) at code_point.now (moment_of result) }
 {
     let names = report.tracked.names.as_slice();
-    let told = told_at(report.points.as_slice(), code_point.point);
+    let told = told_near(report.points.as_slice(), at, code_point.point);
     WatchCtx {
         point: at,
         proc_entry: stack.last.procedure,
@@ -67,14 +67,25 @@ pub(crate) fn context<'a>(
     }
 }
 
-/// What a report tells of a point, if it has it. Its points ascend.
-pub(crate) fn told_at(told: &[PointRows], point: Point) -> Option<&PointRows>
+// What a report tells of a point, if it has it. Its points ascend.
+fn told_at(told: &[PointRows], point: Point) -> Option<&PointRows>
     requires { ∥ Ascend told.now ∥₁ }
     ensures { option_copied result ≡ find (is_told_of point) told.now }
 {
     match search(told, point) {
         Ok(i) => at(told, i),
         Err(_) => None,
+    }
+}
+
+/// The same, where the point mostly has this number in the report.
+pub(crate) fn told_near(told: &[PointRows], number: u32, point: Point) -> Option<&PointRows>
+    requires { ∥ Ascend told.now ∥₁ }
+    ensures { option_copied result ≡ find (is_told_of point) told.now }
+{
+    match at(told, number as usize) {
+        Some(here) if point_of(here) == point => Some(here),
+        _ => told_at(told, point),
     }
 }
 

@@ -16,7 +16,7 @@ use crate::context::LiveSlots;
 use crate::details::first_broken;
 use crate::live_slots::Allowed;
 use crate::marks::SlotMarks;
-use crate::moment::{is_unreached, rows_in, told_at};
+use crate::moment::{is_unreached, rows_in, told_near};
 use crate::stacks::Stack;
 use crate::values::values;
 use affine_lift::slot_writes;
@@ -161,8 +161,10 @@ fn is_calm(
         depth: stack.earlier.len() as u32 + 1,
         writable: slot_writes(points, offsets, &report.tracked, at),
     };
-    are_kept(told_at(report.points.as_slice(), code_point.point), &values)
-        && are_spared(&slots, allowed, code, stored_to(machine, instr))
+    are_kept(
+        told_near(report.points.as_slice(), at, code_point.point),
+        &values,
+    ) && are_spared(&slots, allowed, code, stored_to(machine, instr))
 }
 
 // The point isn't called unreached, and values break none of its rows.

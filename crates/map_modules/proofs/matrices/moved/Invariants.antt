@@ -1,7 +1,9 @@
-use Rattle.std.proofs.Common.{◌*◌}
-use Rattle.map_modules.specs.Matrices.{cell, entry, sum_below}
-use Rattle.map_modules.proofs.Entries.{Written}
+use Rattle.std.proofs.Common.{◌/◌}
+use Rattle.map_modules.proofs.Rowwise.{AddedUp}
 use Rattle.map_modules.proofs.matrices.moved.Given as goal
 
-abbrev pub invariant-loop-at : goal.invariant-loop-at
-invariant-loop-at g l = Written l.columns (λ i j. sum_below 17 (λ k. entry l.m i k * cell l.columns l.v k j)) l.at l.word-items
+abbrev pub invariant-loop-i : goal.invariant-loop-i
+invariant-loop-i g l = AddedUp (g.row.N / 17) g.row.N l.m l.v l.i 0 l.words
+
+abbrev pub invariant-loop-l : goal.invariant-loop-l
+invariant-loop-l g l = AddedUp (g.row.N / 17) g.row.N l.m l.v l.i l.l l.words

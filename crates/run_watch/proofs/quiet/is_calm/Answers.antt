@@ -10,8 +10,8 @@ use Rattle.run_watch.specs.Quiet.{IsLeft, stored_to, told_detail}
 use Rattle.run_watch.proofs.Silent.{calm_at}
 use Rattle.run_watch.proofs.quiet.is_calm.Goals as goal
 
-pub told_at-requires : goal.told_at-requires
-told_at-requires c = subst (λ (told : List PointRows). ∥ Ascend told ∥₁) (sym c.as_slice-2.ensures) c.args.report.now.ascending
+pub told_near-requires : goal.told_near-requires
+told_near-requires c = subst (λ (told : List PointRows). ∥ Ascend told ∥₁) (sym c.as_slice-2.ensures) c.args.report.now.ascending
 
 pub returns-then-are_kept : goal.returns-then-are_kept
 returns-then-are_kept c all =
@@ -22,7 +22,7 @@ returns-then-are_kept c all =
     subst (λ o. IsSomeAnd o (λ d. WritesSlots scene.points.points scene.names d c.slot_writes.result)) c.requires.is_at.code c.slot_writes.ensures in
     let none : told_detail (told_at scene.told c.args.code_point.now.point) c.values-values.result ≡ None =
     subst (λ o. told_detail (option_map (λ t. t.state) o) c.values-values.result ≡ None)
-    (c.told_at.ensures ∙ ap (λ (told : List PointRows). find (is_told_of c.args.code_point.now.point) told) c.as_slice-2.ensures) (c.if-are_kept.ensures refl) in
+    (c.told_near.ensures ∙ ap (λ (told : List PointRows). find (is_told_of c.args.code_point.now.point) told) c.as_slice-2.ensures) (c.if-are_kept.ensures refl) in
     let left : IfSome (stored_to c.args.instr (hart_of a.machine))
     (IsLeft (slots_by scene.names a.stack.earlier a.stack.last) (length a.stack.earlier + 1) c.slot_writes.result scene.code) = search rules in
     calm_at scene a c.args.at c.args.code_point.now c.args.instr c.values-values.result c.slot_writes.result are writes none left
