@@ -105,3 +105,15 @@ module _ (program : Program) (formed : IsWellFormed program) (blocks : Contracti
       let place : rows ≡ rows_at kept e.from = read ∙ get_or_default kept e.from rows [] (let b = s.from_below in let l = k.long in omega arith) in
       subst (HasStates program e.from) (sym (is ∙ ap (λ (xs : List (List ℕ)). states_by reached xs (number_of blocks e.from)) place))
       (before_known reached kept r v below k e.from s.from_below s.follows)
+
+  -- both, for an inner node whose edge is read
+  pub record IsRead (v : ℕ) (e : Edge) (states : List (List ℕ)) : Type 0 where
+    pub step : IsStepInto program v e
+    pub known : HasStates program e.from states
+
+  pub both_read : (reached kept : List (List (List ℕ))) → AreReached blocks.small reached → (v : ℕ) → v < program.nodes → AreKept program v kept
+      → (k : ℕ) (edges : List Edge) (e : Edge) → edge_number_of blocks v ≡ Some k → edges ≡ program.edges → e ≡ slice_index_or edges k e
+      → (rows states : List (List ℕ)) → rows ≡ slice_index_or kept e.from rows → states ≡ states_by reached rows (number_of blocks e.from) → IsRead v e states
+  both_read reached kept r v below kept_are k edges e some same read rows states there is =
+      let s = step_read v k edges e below some same read in
+      record { step = s; known = before_read reached kept r v below kept_are e s rows states there is }

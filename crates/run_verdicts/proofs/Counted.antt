@@ -9,7 +9,7 @@ use Rattle.run_paths.specs.Lifts.{Lift}
 use Rattle.run_watch.specs.Runs.{Reaches, Scene, Sight, Spot, here, onward, scene_of, steps_of}
 use Rattle.run_verdicts.specs.Whole.{AreCounted, IsWatchedRun}
 use Rattle.run_verdicts.proofs.LastSight.{IsLastSight, last_sight}
-use Rattle.run_verdicts.proofs.Pushed.{nth_before, nth_last, one_longer}
+use Rattle.run_verdicts.proofs.Pushed.{nth_before, last_item, one_longer}
 
 counted_more : (before : List Sight) (s : Sight) → AreCounted before → s.told.index ≡ length before
     → AreCounted (before ++ s ∷ [])
@@ -17,11 +17,7 @@ counted_more before s counted index i t at =
     elim (cases_lt i (length before)) [
       | inl former ↦ counted i t (sym (nth_before before s i former) ∙ at)
       | inr past ↦
-          let within = slice_get_within (before ++ s ∷ []) i t at in
-          let count = one_longer before s in
-          let last : i ≡ length before = omega (arith, past, within, count) in
-          let both : Some s ≡ Some t = sym (nth_last before s) ∙ ap (slice_get (before ++ s ∷ [])) (sym last) ∙ at in
-          let same : s ≡ t = cc in
+          let (last, same) = last_item before s t i past at in
           ap (λ (u : Sight). u.told.index) (sym same) ∙ index ∙ sym last
     ]
 

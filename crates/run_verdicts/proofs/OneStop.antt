@@ -1,5 +1,5 @@
 -- Why a machine stops is one.
-use Rattle.std.proofs.Common.{◌≡◌, ◌≢◌, ℕ, ◌^◌, ◌<◌, List, slice_index, None, ap, sym, ◌∙◌, subst}
+use Rattle.std.proofs.Common.{◌≡◌, ◌≢◌, ℕ, ◌^◌, ◌<◌, List, slice_index, Some, None, ap, sym, ◌∙◌, subst}
 use Rattle.elf_image.specs.declared.fetched.Fetched.{Fetched}
 use Rattle.rv_instr.specs.declared.Instr.{Instr}
 use Rattle.rv_instr.specs.declared.Instr.TheVariants.{Ecall, Ebreak}
@@ -22,6 +22,13 @@ one_instr m at there i j is also =
     one_meaning at.word at.length i j is.means (subst (λ (f : Fetched). MeansWithLength f.word f.length j) same also.means)
 
 module _ (m : Hart) where
+  not_illegal : (at there : Fetched) (i : Instr) → IsAt m at i → fetched m ≡ Some there
+      → ((j : Instr) → MeansWithLength there.word there.length j → ⊥) → ⊥
+  not_illegal at there i is f nothing =
+      let g = is.fetches in
+      let same : at ≡ there = cc in
+      nothing i (subst (λ (h : Fetched). MeansWithLength h.word h.length i) same is.means)
+
   only_outside : fetched m ≡ None → (why : Stop) → StopsWith m why → why ≡ stop.Outside m.pc
   only_outside none why (outside f e) = e
   only_outside none why (illegal at f nothing e) = absurd (cc)
@@ -31,30 +38,21 @@ module _ (m : Hart) where
 
   only_break : (at : Fetched) → IsAt m at Ebreak → (why : Stop) → StopsWith m why → why ≡ stop.Break m.pc
   only_break at is why (outside f e) = let g = is.fetches in absurd (cc)
-  only_break at is why (illegal there f nothing e) =
-      let g = is.fetches in
-      let same : at ≡ there = cc in
-      absurd (nothing Ebreak (subst (λ (h : Fetched). MeansWithLength h.word h.length Ebreak) same is.means))
+  only_break at is why (illegal there f nothing e) = absurd (not_illegal at there Ebreak is f nothing)
   only_break at is why (breaks there also e) = e
   only_break at is why (exits there also a7 e) = let clash = one_instr m at there Ebreak Ecall is also in absurd (cc)
   only_break at is why (calls there also a7 e) = let clash = one_instr m at there Ebreak Ecall is also in absurd (cc)
 
   only_exit : (at : Fetched) → IsAt m at Ecall → x m 17 ≡ 93 → (why : Stop) → StopsWith m why → why ≡ stop.Exit (x m 10)
   only_exit at is a7 why (outside f e) = let g = is.fetches in absurd (cc)
-  only_exit at is a7 why (illegal there f nothing e) =
-      let g = is.fetches in
-      let same : at ≡ there = cc in
-      absurd (nothing Ecall (subst (λ (h : Fetched). MeansWithLength h.word h.length Ecall) same is.means))
+  only_exit at is a7 why (illegal there f nothing e) = absurd (not_illegal at there Ecall is f nothing)
   only_exit at is a7 why (breaks there also e) = let clash = one_instr m at there Ecall Ebreak is also in absurd (cc)
   only_exit at is a7 why (exits there also a7_too e) = e
   only_exit at is a7 why (calls there also other e) = absurd (other a7)
 
   only_call : (at : Fetched) → IsAt m at Ecall → x m 17 ≢ 93 → (why : Stop) → StopsWith m why → why ≡ stop.Ecall (x m 17)
   only_call at is a7 why (outside f e) = let g = is.fetches in absurd (cc)
-  only_call at is a7 why (illegal there f nothing e) =
-      let g = is.fetches in
-      let same : at ≡ there = cc in
-      absurd (nothing Ecall (subst (λ (h : Fetched). MeansWithLength h.word h.length Ecall) same is.means))
+  only_call at is a7 why (illegal there f nothing e) = absurd (not_illegal at there Ecall is f nothing)
   only_call at is a7 why (breaks there also e) = let clash = one_instr m at there Ecall Ebreak is also in absurd (cc)
   only_call at is a7 why (exits there also is_93 e) = absurd (a7 is_93)
   only_call at is a7 why (calls there also other e) = e

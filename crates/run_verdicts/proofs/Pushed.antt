@@ -1,5 +1,6 @@
 -- Lists with one item more behind.
-use Rattle.std.proofs.Common.{◌≡◌, ℕ, zero, suc, ◌<◌, ◌≤◌, List, [], ◌∷◌, ◌++◌, length, take, slice_get, Some, refl, ap, arith}
+use Rattle.std.proofs.Common.{◌≡◌, ℕ, zero, suc, ◌<◌, ◌≤◌, List, [], ◌∷◌, ◌++◌, length, take, slice_get, Some, refl, ap, sym, ◌∙◌, arith}
+use Rattle.std.proofs.lemmas.Option.{slice_get_within}
 
 -- items of a list with one behind
 pub nth_before : {X : Type 0} (xs : List X) (x : X) (i : ℕ) → i < length xs → slice_get (xs ++ x ∷ []) i ≡ slice_get xs i
@@ -14,6 +15,15 @@ nth_last (y ∷ xs) x = nth_last xs x
 pub one_longer : {X : Type 0} (xs : List X) (x : X) → length (xs ++ x ∷ []) ≡ suc (length xs)
 one_longer [] x = refl
 one_longer (y ∷ xs) x = ap suc (one_longer xs x)
+
+-- an item that is none of the former ones is the last
+pub last_item : {X : Type 0} (xs : List X) (x y : X) (i : ℕ) → length xs ≤ i → slice_get (xs ++ x ∷ []) i ≡ Some y → (i ≡ length xs) × (x ≡ y)
+last_item xs x y i past at =
+    let within = slice_get_within (xs ++ x ∷ []) i y at in
+    let count = one_longer xs x in
+    let last : i ≡ length xs = omega (arith, past, within, count) in
+    let both : Some x ≡ Some y = sym (nth_last xs x) ∙ ap (slice_get (xs ++ x ∷ [])) (sym last) ∙ at in
+    (last, cc)
 
 pub taken_before : {X : Type 0} (xs : List X) (x : X) (i : ℕ) → i ≤ length xs → take i (xs ++ x ∷ []) ≡ take i xs
 taken_before xs x zero low = refl

@@ -16,7 +16,7 @@ use Rattle.run_watch.specs.Activations.{Stack, TurnsBy}
 use Rattle.run_watch.specs.Runs.{MakesStep, Scene, Sight, Spot}
 use Rattle.run_verdicts.specs.Runs.{AreSeenSteps, IsSeenRun, IsSeenStep}
 use Rattle.run_verdicts.specs.Seen.{IsSceneOf, IsStackSeen}
-use Rattle.run_verdicts.proofs.Pushed.{nth_before, nth_last, one_longer}
+use Rattle.run_verdicts.proofs.Pushed.{nth_before, last_item, one_longer}
 use Rattle.run_verdicts.proofs.Quiet.{point_seen}
 use Rattle.run_verdicts.proofs.RunsOn.{run_before, run_behind, run_on, same_activations, same_step}
 use Rattle.run_verdicts.proofs.Stacked.{stack_turned}
@@ -58,11 +58,7 @@ module _ (image : Image) (lift : Lift) (scene : Scene) (limit : ℕ) (is : IsSce
               (as_before (suc j) (omega (arith, below)))
               (h.steps.each j t (sym (nth_before before s j below) ∙ at))
           | inr past ↦
-              let within = slice_get_within (before ++ s ∷ []) j t at in
-              let count = one_longer before s in
-              let last : j ≡ length before = omega (arith, past, within, count) in
-              let both : Some s ≡ Some t = sym (nth_last before s) ∙ ap (slice_get (before ++ s ∷ [])) (sym last) ∙ at in
-              let same : s ≡ t = cc in
+              let (last, same) = last_item before s t j past at in
               subst (λ (u : Sight). IsSeenStep lift scene limit (activations_at lift more j) (more j) (more (suc j)) u) same
               (subst (λ (l : ℕ). IsSeenStep lift scene limit (activations_at lift more l) (more l) (more (suc l)) s)
               (sym last) here_seen)

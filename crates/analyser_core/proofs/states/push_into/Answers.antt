@@ -9,7 +9,7 @@ use Rattle.block_program.specs.EdgesInto.{assigns_of}
 use Rattle.block_program.specs.Pushes.{MakesOf}
 use Rattle.block_program.proofs.Lemmas.{module_follows, places_few}
 use Rattle.analyser_core.specs.States.{HasStates}
-use Rattle.analyser_core.proofs.NodeStates.{step_read, before_read}
+use Rattle.analyser_core.proofs.NodeStates.{step_read, both_read}
 use Rattle.analyser_core.proofs.states.push_into.Goals as goal
 
 pub push-requires-clause-positions : goal.push-requires-clause-positions
@@ -22,23 +22,19 @@ push-requires-clause-positions g c =
 pub returns-clause-exact : goal.returns-clause-exact
 returns-clause-exact g c =
     let program = c.args.program.now in
-    let v = c.args.node in
     let e = c.index-as_slice-edge_into.result in
     let before = c.states_at-before.result.now in
-    let s = step_read program c.requires.formed c.args.blocks.now c.requires.blocks v c.edge_into.result c.as_slice.result.now e c.requires.node c.edge_into.ensures c.as_slice.ensures c.index-as_slice-edge_into.is in
-    let known = before_read program c.requires.formed c.args.blocks.now c.requires.blocks c.args.reached.now c.args.kept.now c.requires.reached v c.requires.node c.requires.kept e s
-    c.index-kept-edge.result before c.index-kept-edge.is c.states_at-before.ensures in
-    let follows = module_follows program e.from v (assigns_of e.kind) s.follows.inner s.contains before (basis_rows 17 before c.known.ensures.basis) known in
-    IfOk-weaker c.push.result (λ states. SameModule 17 (Contains states) (MakesOf (assigns_of e.kind) before)) (HasStates program v)
-    (λ states same. same_with 17 (Contains states) (MakesOf (assigns_of e.kind) before) (IsStateAt program v) same follows) c.push.ensures.exact
+    let h = both_read program c.requires.formed c.args.blocks.now c.requires.blocks c.args.reached.now c.args.kept.now c.requires.reached c.args.node c.requires.node c.requires.kept
+    c.edge_into.result c.as_slice.result.now e c.edge_into.ensures c.as_slice.ensures c.index-as_slice-edge_into.is c.index-kept-edge.result before c.index-kept-edge.is c.states_at-before.ensures in
+    let follows = module_follows program e.from c.args.node (assigns_of e.kind) h.step.follows.inner h.step.contains before (basis_rows 17 before c.known.ensures.basis) h.known in
+    IfOk-weaker c.push.result (λ states. SameModule 17 (Contains states) (MakesOf (assigns_of e.kind) before)) (HasStates program c.args.node)
+    (λ states same. same_with 17 (Contains states) (MakesOf (assigns_of e.kind) before) (IsStateAt program c.args.node) same follows) c.push.ensures.exact
 
 pub returns-clause-counts_no_more : goal.returns-clause-counts_no_more
 returns-clause-counts_no_more g c =
-    let program = c.args.program.now in
-    let v = c.args.node in
     let e = c.index-as_slice-edge_into.result in
     let before = c.states_at-before.result.now in
-    let s = step_read program c.requires.formed c.args.blocks.now c.requires.blocks v c.edge_into.result c.as_slice.result.now e c.requires.node c.edge_into.ensures c.as_slice.ensures c.index-as_slice-edge_into.is in
-    let known = before_read program c.requires.formed c.args.blocks.now c.requires.blocks c.args.reached.now c.args.kept.now c.requires.reached v c.requires.node c.requires.kept e s
-    c.index-kept-edge.result before c.index-kept-edge.is c.states_at-before.ensures in
-    places_few program e.from v (assigns_of e.kind) c.requires.formed s.follows.inner s.contains before (basis_rows 17 before c.known.ensures.basis) known c.args.steps.now c.push.new.steps c.push.ensures.counts_no_more
+    let h = both_read c.args.program.now c.requires.formed c.args.blocks.now c.requires.blocks c.args.reached.now c.args.kept.now c.requires.reached c.args.node c.requires.node c.requires.kept
+    c.edge_into.result c.as_slice.result.now e c.edge_into.ensures c.as_slice.ensures c.index-as_slice-edge_into.is c.index-kept-edge.result before c.index-kept-edge.is c.states_at-before.ensures in
+    places_few c.args.program.now e.from c.args.node (assigns_of e.kind) c.requires.formed h.step.follows.inner h.step.contains before (basis_rows 17 before c.known.ensures.basis) h.known
+    c.args.steps.now c.push.new.steps c.push.ensures.counts_no_more
