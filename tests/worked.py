@@ -83,12 +83,15 @@ FRAME_REPORT = told("affine-report 2", TRACK, lambda c: [f"cert {r} {c}" for r i
 FRAME_OLD = told("affine-report 1", TRACK, lambda c: [], lambda i, a, w, t: [f"at {a:#x}"] + FRAME_ROWS[i])
 FRAME_CERT = told("affine-cert 1", TRACK, lambda c: [f"{r} {c}" for r in KEPT], lambda i, a, w, t: [])
 FRAME_CODE = told("affine-list 1", [], lambda c: [], lambda i, a, w, t: [f"{a:#x} {w:08x} {t}"])
+NARROW_LIST = "sp,ra,0x1008c:-8"
+NARROW_ROWS = [[row for row in rows if row == "none" or row == RA_SAVED or row[:8] in ("rel 1*sp", "rel 1*ra")] for rows in FRAME_ROWS]
+FRAME_NARROW = told("affine-narrow 1", [f"track {NARROW_LIST}"], lambda c: [], lambda i, a, w, t: [f"at {a:#x}"] + NARROW_ROWS[i])
 FRAME_VERDICT = "affine-run 1\nsteps 16\nstop break 0x10088\nend\n"
 ONE = "affine-gen 1\nn 1\nbytes 164\npoints 11\nprocs 2\nrows 1\nunreached 0\nend\n"
 
 USAGE = (
     "usage:\nanalyse FILE --track LIST\ncert FILE --track LIST\nlist FILE\nrun FILE REPORT --steps N [--regs R]\n"
-    "gen N --track LIST\nupgrade FILE REPORT\n"
+    "gen N --track LIST\nupgrade FILE REPORT\nnarrow FILE --track LIST\n"
 )
 
 # Each order over FRAME: its words, the text that REPORT is, or None, and its whole answer, with status 0.
@@ -98,6 +101,7 @@ ORDERS = {
     "list": ("list FILE", None, FRAME_CODE),
     "run": ("run FILE REPORT --steps 100 --regs a0=3", FRAME_REPORT, FRAME_VERDICT),
     "upgrade": ("upgrade FILE REPORT", FRAME_OLD, FRAME_REPORT),
+    "narrow": ("narrow FILE --track " + NARROW_LIST, None, FRAME_NARROW),
     "gen": ("gen 1 --track a0", None, ONE),
 }
 
