@@ -7,4 +7,5 @@ mod Claiming
 mod Starting
 mod Passing
 mod Following
+mod Nowhere
 pub mod Lemmas

@@ -1,6 +1,6 @@
 //! What follows from the rules. Each function runs nothing; its contract is a law.
 
-ghost use Rattle.proof_rules.specs.Laws.{ClaimsHold, LevelMapsAreIn, OpenStatesAreIn};
+ghost use Rattle.proof_rules.specs.Laws.{ClaimsHold, ConstantIsNowhereZero, LevelMapsAreIn, OpenStatesAreIn};
 ghost use Rattle.proof_rules.specs.Exact.{ExactRowsPass, WhatHoldsIsClaimed};
 ghost use Rattle.proof_rules.specs.Alike.{RulesFollowModules};
 
@@ -34,4 +34,10 @@ pub fn exact_rows_pass()
 /// Rows of the same modules pass the same items of the rules: so a list of rows may be tried by any that generates its module.
 pub fn rules_follow_modules()
     ensures { RulesFollowModules }
+{}
+
+/// Where the unit row of the constant's position holds at a node, no open path ends there: so a proof claims of a node that it
+/// isn't reached.
+pub fn constant_is_nowhere_zero()
+    ensures { ConstantIsNowhereZero }
 {}

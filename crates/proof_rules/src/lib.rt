@@ -13,5 +13,6 @@
 mod laws;
 
 pub use laws::{
-    claims_hold, exact_rows_pass, level_maps_are_in, open_states_are_in, rules_follow_modules,
+    claims_hold, constant_is_nowhere_zero, exact_rows_pass, level_maps_are_in, open_states_are_in,
+    rules_follow_modules,
 };
