@@ -160,7 +160,7 @@ module _ (program : Program) where
       }
 
 module _ (program : Program) (formed : IsWellFormed program) where
-  register_below : (k : ℕ) → IsTrue (has program.registers k) → k < 16
+  pub register_below : (k : ℕ) → IsTrue (has program.registers k) → k < 16
   register_below k member = elim (cases_lt k 16) [
     | inl h ↦ h
     | inr h ↦ let small = registers_below program formed in let e = formed.width in

@@ -21,6 +21,8 @@ mod maps;
 #[cfg(test)]
 mod programs;
 #[cfg(test)]
+mod refutations;
+#[cfg(test)]
 mod relations;
 #[cfg(test)]
 mod rows;
