@@ -23,6 +23,8 @@ mod narrow;
 #[cfg(test)]
 mod programs;
 #[cfg(test)]
+mod refutations;
+#[cfg(test)]
 mod relations;
 #[cfg(test)]
 mod rows;
