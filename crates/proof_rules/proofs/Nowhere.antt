@@ -1,5 +1,5 @@
 -- The constant of a state is 1, so a node at which it is claimed to be 0 is not reached.
-use Rattle.std.proofs.Common.{◌≡◌, ℕ, ◌*◌, List, slice_index, ap, arith}
+use Rattle.std.proofs.Common.{◌≡◌, ℕ, ◌*◌, slice_index, ap, arith}
 use Rattle.word_rows.specs.Words.{word}
 use Rattle.word_rows.specs.Rows.{dot_sum, dot, unit}
 use Rattle.word_rows.proofs.Laws.{dot_sum-unit}
