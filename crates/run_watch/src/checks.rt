@@ -23,8 +23,9 @@ use rv_step::{Machine, Memory};
 use std::alloc::Global;
 
 /// Runs an image from its entry, with these registers and 0 in all memory outside it, for at most so many steps. All watches
-/// see each step with its moment, and one closing record where the run stops at a point. The answer has the steps that were
-/// made, why the run stopped, and what each watch found.
+/// see each step with its moment, and one closing record where the run stops at a point. Where all watches are of the kinds 1
+/// to 4 they are spared steps at which these find nothing. The answer has the steps that were made, why the run stopped, and
+/// what each watch found.
 pub fn check_run(
     alloc: Global,
     image: &Image,

@@ -5,7 +5,8 @@ use rv_step::StepRec;
 
 /// A watch sees each record of a run, with the moment of the record, and says in the end what it found. Its meaning is a
 /// kind, which stays, and a state. What the kinds 1 to 4 find is told in `specs/Judges.antt`, and a finding stays.
-/// Nothing is claimed of other kinds.
+/// Nothing is claimed of other kinds. A run whose watches are all of these four kinds may leave out records at which none of
+/// the kinds finds anything.
 pub trait Watch: Drop {
     ghost use Rattle.std.specs.Prelude.{◌≡◌, ◌≤◌, ℕ, Option};
     ghost use Rattle.run_watch.specs.declared.context.Found.{Found};

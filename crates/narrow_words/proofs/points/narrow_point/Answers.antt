@@ -1,5 +1,4 @@
-use Rattle.std.proofs.Common.{◌<◌, Contains, arith}
-use Rattle.row_modules.specs.Modules.{SameModule}
+use Rattle.std.proofs.Common.{Contains, arith}
 use Rattle.lead_basis.proofs.Laws.{turned}
 use Rattle.row_modules.proofs.Laws.{constant_is_in}
 use Rattle.affine_prog.specs.Programs.{owner_of, visible_in}

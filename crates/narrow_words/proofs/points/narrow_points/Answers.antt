@@ -1,5 +1,4 @@
-use Rattle.std.proofs.Common.{◌<◌, length, arith}
-use Rattle.affine_prog.specs.declared.Program.{Program}
+use Rattle.std.proofs.Common.{arith}
 use Rattle.analyser_core.proofs.NodeStates.{states_known}
 use Rattle.narrow_words.proofs.PointsSoFar.{told_no_more, told_one}
 use Rattle.narrow_words.proofs.points.narrow_points.Goals as goal
