@@ -4,6 +4,8 @@
 #![tactic(auto)]
 
 #[cfg(test)]
+mod against_reports;
+#[cfg(test)]
 mod runs;
 #[cfg(test)]
 mod steps;

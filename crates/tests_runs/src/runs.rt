@@ -1,6 +1,5 @@
 //! Runs of small files under the four watches, and the step at which each first finds something: runs that keep the
-//! discipline to their ends, and runs that keep it exactly up to a step. And a watch of another kind behind the four: how
-//! many records it sees, and that it changes nothing of what the four find.
+//! discipline to their ends, and runs that keep it exactly up to a step.
 
 ghost use Rattle.std.specs.Prelude.{◌≤◌};
 ghost use Rattle.flow_points.specs.PointLists.{ArePointsOf};
@@ -56,7 +55,7 @@ impl Watch for CountWatch {
 
 /// Which watches see a run: none, the four, or the four and then one that counts records.
 #[derive(Clone, Copy, PartialEq, Eq)]
-enum Watches {
+pub(crate) enum Watches {
     None,
     Four,
     Five,
@@ -64,13 +63,13 @@ enum Watches {
 
 /// What a run is given: a report's text, sp, a0 and a1, at most how many steps, and its watches.
 #[derive(Clone, Copy)]
-struct Given<'a> {
-    report: &'a str,
-    sp: u64,
-    a0: u64,
-    a1: u64,
-    steps: u64,
-    which: Watches,
+pub(crate) struct Given<'a> {
+    pub(crate) report: &'a str,
+    pub(crate) sp: u64,
+    pub(crate) a0: u64,
+    pub(crate) a1: u64,
+    pub(crate) steps: u64,
+    pub(crate) which: Watches,
 }
 
 /// A run of at most so many steps with sp at 0x20000 and a0 at 3, under these watches, against a report that tells of
@@ -101,7 +100,7 @@ fn run_under(
 }
 
 /// A run with what is given, where it isn't refused.
-fn run_given(alloc: Global, words: &[u32], given: &Given<'_>) -> Option<RunVerdict>
+pub(crate) fn run_given(alloc: Global, words: &[u32], given: &Given<'_>) -> Option<RunVerdict>
     requires steps { given.now.steps ≤ 1000000000 }
 {
     match answer(alloc, words, given) {
@@ -111,7 +110,11 @@ fn run_given(alloc: Global, words: &[u32], given: &Given<'_>) -> Option<RunVerdi
 }
 
 /// What the check of a run with what is given answers.
-fn answer(alloc: Global, words: &[u32], given: &Given<'_>) -> Option<Result<RunVerdict, RunRefusal>>
+pub(crate) fn answer(
+    alloc: Global,
+    words: &[u32],
+    given: &Given<'_>,
+) -> Option<Result<RunVerdict, RunRefusal>>
     requires steps { given.now.steps ≤ 1000000000 }
 {
     match file_of_words(alloc, words) {
@@ -230,7 +233,12 @@ fn index_of(found: &Option<Found>) -> Option<u64> {
 }
 
 /// Whether a verdict has so many steps, this stop, and for each watch that found something the index of its record.
-fn tells(verdict: &RunVerdict, steps: u64, stop: RunStop, indices: &[Option<u64>]) -> bool {
+pub(crate) fn tells(
+    verdict: &RunVerdict,
+    steps: u64,
+    stop: RunStop,
+    indices: &[Option<u64>],
+) -> bool {
     let found = verdict.found.as_slice();
     for (one, index) in found.iter().zip(indices) {
         if index_of(one) != *index {
@@ -448,117 +456,4 @@ fn a_record_of_no_step(rt: HostRuntime) {
 fn no_watches(rt: HostRuntime) {
     let words = [0x00150513, 0x00100073];
     assert!(rt; is_unseen(rt.alloc(), &words, 1, RunStop::Break(0x1_007c)));
-}
-
-/// addi a0,zero,0; addi a0,a0,8; bne a0,a1,-4; ebreak
-const COUNTING: [u32; 4] = [0x00000513, 0x00850513, 0xfeb51ee3, 0x00100073];
-
-const COUNTING_REPORT: &str =
-    "affine-report 2\ntrack a0\nproc 0x10078\nat 0x10078\nnone\nat 0x1007c\nrel 2305843009213693952*a0\nat 0x10080\nrel 2305843009213693952*a0\nat 0x10084\nrel 2305843009213693952*a0\nend\n";
-
-const WRONG_REPORT: &str =
-    "affine-report 1\ntrack a0\nproc 0x10078\nat 0x10078\nnone\nat 0x1007c\nrel 1*a0\nend\n";
-
-/// jal ra,8; ebreak; addi sp,sp,-16; sd ra,8(sp); sd zero,0(a0); ld ra,8(sp); addi sp,sp,16; ret
-const STRAY_STORE: [u32; 8] = [
-    0x008000ef, 0x00100073, 0xff010113, 0x00113423, 0x00053023, 0x00813083, 0x01010113, 0x00008067,
-];
-
-const STRAY_REPORT: &str =
-    "affine-report 1\ntrack sp,ra,0x10080:-8\nproc 0x10078\nat 0x10078\nnone\nat 0x1007c\nrel 1*ra -65660\nproc 0x10080\nat 0x10080\nrel 1*ra -65660\nat 0x10084\nrel 1*ra -65660\nat 0x10088\nrel 1*ra -65660\nrel 1*0x10080:-8 -65660\nat 0x1008c\nrel 1*ra -65660\nrel 1*0x10080:-8 -65660\nat 0x10090\nrel 1*ra -65660\nrel 1*0x10080:-8 -65660\nat 0x10094\nrel 1*ra -65660\nrel 1*0x10080:-8 -65660\nend\n";
-
-/// A run, what it is given, its steps and its stop, and the indices that the five watches tell.
-struct Seen {
-    words: &'static [u32],
-    given: Given<'static>,
-    steps: u64,
-    stop: RunStop,
-    indices: [Option<u64>; 5],
-}
-
-const COUNTED: Given<'static> = Given {
-    report: COUNTING_REPORT,
-    sp: 0,
-    a0: 0,
-    a1: 24,
-    steps: 100,
-    which: Watches::Five,
-};
-
-const SEEN: [Seen; 4] = [
-    Seen {
-        words: &COUNTING,
-        given: COUNTED,
-        steps: 7,
-        stop: RunStop::Break(0x1_0084),
-        indices: [None, None, None, None, Some(8)],
-    },
-    Seen {
-        words: &COUNTING,
-        given: Given {
-            report: WRONG_REPORT,
-            ..COUNTED
-        },
-        steps: 7,
-        stop: RunStop::Break(0x1_0084),
-        indices: [Some(3), None, None, None, Some(8)],
-    },
-    Seen {
-        words: &COUNTING,
-        given: Given {
-            steps: 0,
-            ..COUNTED
-        },
-        steps: 0,
-        stop: RunStop::Budget,
-        indices: [None, None, None, None, Some(1)],
-    },
-    Seen {
-        words: &STRAY_STORE,
-        given: Given {
-            report: STRAY_REPORT,
-            sp: 0x2_0000,
-            a0: 0x1_fff8,
-            ..COUNTED
-        },
-        steps: 7,
-        stop: RunStop::Left(0),
-        indices: [Some(4), Some(3), Some(6), None, Some(7)],
-    },
-];
-
-fn all_are_seen(alloc: Global, cases: &[Seen]) -> bool {
-    for case in cases.iter() {
-        if !is_seen_so(alloc, case) {
-            return false;
-        }
-    }
-    true
-}
-
-fn is_seen_so(alloc: Global, case: &Seen) -> bool {
-    if case.given.steps > 1000 {
-        return false;
-    }
-    match run_given(alloc, case.words, &case.given) {
-        Some(verdict) => tells(&verdict, case.steps, case.stop, &case.indices),
-        None => false,
-    }
-}
-
-/// The watch behind the four sees each record, and they find what they find without it.
-#[test]
-fn a_watch_of_another_kind(rt: HostRuntime) {
-    assert!(rt; all_are_seen(rt.alloc(), &SEEN));
-}
-
-/// A report with a point that the file doesn't have is refused, and the watches are gone with it.
-#[test]
-fn watches_of_a_refused_run(rt: HostRuntime) {
-    let given = Given {
-        report: "affine-report 1\ntrack a0\nproc 0x10078\nat 0x10090\nnone\nend\n",
-        ..COUNTED
-    };
-    let refusal = answer(rt.alloc(), &COUNTING, &given);
-    assert!(rt; matches!(refusal, Some(Err(RunRefusal::NotAPoint(0x1_0090)))));
 }
