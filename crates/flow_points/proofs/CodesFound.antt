@@ -6,8 +6,7 @@ use Rattle.std.specs.Result.{result_ok}
 use Rattle.std.proofs.lemmas.List.{take_more}
 use Rattle.std.proofs.lemmas.Option.{get_or_from_slice_get, slice_get_within}
 use Rattle.std.proofs.lemmas.List.Elements.{All-head, All-tail, All-cons, All-nil, filter_map-append}
-use Rattle.flow_points.specs.Flows.{Fetches}
-use Rattle.flow_points.specs.Sites.{IsCode}
+use Rattle.flow_points.specs.Flows.{Fetches, IsCode}
 use Rattle.flow_points.specs.Causes.{codes_of}
 use Rattle.flow_points.specs.PointLists.{places_of}
 use Rattle.flow_points.specs.declared.code_points.Point.{Point}

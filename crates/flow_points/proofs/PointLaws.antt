@@ -13,7 +13,7 @@ use Rattle.elf_image.specs.declared.image.Image.{Image}
 use Rattle.rv_decode.specs.Instructions.{IsWellFormed}
 use Rattle.rvc_expand.proofs.Cited.{meaning_in_range}
 use Rattle.flow_points.specs.Walks.{FlowWalk, IsPoint, begin, onward, start, successors_of}
-use Rattle.flow_points.specs.Sites.{IsCode}
+use Rattle.flow_points.specs.Flows.{IsCode}
 use Rattle.flow_points.specs.PointLists.{FlowPoints, ArePointsOf, HasCode, IsBefore, entries_of, places_of}
 use Rattle.flow_points.specs.declared.code_points.CodePoint.{CodePoint}
 use Rattle.flow_points.specs.declared.code_points.Point.{Point}

@@ -9,8 +9,8 @@ use Rattle.std.proofs.lemmas.List.Sorted.{All-permutation, Contains-permutation,
 use Rattle.std.proofs.lemmas.Map.Entries.{length-keys_of}
 use Rattle.flow_points.specs.Walks.{FlowWalk, start}
 use Rattle.flow_points.specs.Refusals.{IsRefusal, bad_point, there, too_many}
-use Rattle.flow_points.specs.Flows.{Fetches}
-use Rattle.flow_points.specs.Sites.{AreAllSites, IsCode, IsSite}
+use Rattle.flow_points.specs.Flows.{Fetches, IsCode}
+use Rattle.flow_points.specs.Sites.{AreAllSites, IsSite}
 use Rattle.flow_points.specs.Causes.{codes_of, first_cause_of, same_point}
 use Rattle.flow_points.specs.PointLists.{ArePoints, entries_of, places_of, point_cmp}
 use Rattle.flow_points.specs.declared.code_points.Point.{Point}

@@ -5,8 +5,8 @@ use Rattle.elf_image.specs.declared.fetched.Fetched.{Fetched}
 use Rattle.rv_instr.specs.declared.Instr.{Instr}
 use Rattle.rv_instr.specs.declared.Instr.TheVariants.{Jalr}
 use Rattle.rvc_expand.specs.Lengths.{MeansWithLength}
-use Rattle.flow_points.specs.Flows.{Fetches, HasFlow, HasInstr, HasUpper, IsSecondHalf, Judged, base_of, flow_of, known, next}
-use Rattle.flow_points.specs.Sites.{IsCode, IsSite}
+use Rattle.flow_points.specs.Flows.{base_of, flow_of, known, next, Fetches, HasFlow, HasInstr, HasUpper, IsCode, IsSecondHalf, Judged}
+use Rattle.flow_points.specs.Sites.{IsSite}
 use Rattle.flow_points.specs.declared.code_points.Flow.{Flow}
 use Rattle.flow_points.specs.declared.code_points.Point.{Point}
 use Rattle.flow_points.specs.declared.code_points.CodePoint.{CodePoint}

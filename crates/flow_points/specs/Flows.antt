@@ -24,6 +24,7 @@
 --   IsSecondHalf fetches a        at a stands a JALR, and before it an AUIPC of the JALR's base
 --   Judged fetches a outcome      the outcome at a: the flow of its instruction, or what is bad there
 --   HasFlow fetches a flow        the instruction at a has this flow
+--   IsCode fetches c              the word, its length, the instruction and the flow of c are those at its address
 use Rattle.std.specs.Prelude.{◌≡◌, ◌≢◌, ℕ, ◌+◌, ◌-◌, ◌*◌, ◌%◌, ◌^◌, ◌==◌, ℤ, pos, ◌&&◌, ◌||◌, Option, None, Some, MatchOption, Result, Ok, Err, if◌then◌else◌}
 use Rattle.std.specs.Int.{cast_unsigned, cast_signed, w32, w64}
 use Rattle.std.specs.Ordering.{int_eq}
@@ -34,6 +35,7 @@ use Rattle.rv_decode.specs.Instructions.{Means}
 use Rattle.rvc_expand.specs.Lengths.{MeansWithLength}
 use Rattle.rv_instr.specs.declared.Instr.{Instr}
 use Rattle.rv_instr.specs.declared.Instr.TheVariants.{Auipc, Jal, Jalr, Branch as BranchInstr, Ebreak}
+use Rattle.flow_points.specs.declared.code_points.CodePoint.{CodePoint}
 use Rattle.flow_points.specs.declared.code_points.Flow.{Flow}
 use Rattle.flow_points.specs.declared.code_points.Flow.TheVariants.{Next, Jump, Branch, Call, Return, Halt}
 use Rattle.refusals.specs.declared.flow.FlowRefusal.{FlowRefusal}
@@ -124,3 +126,7 @@ pub data Judged (fetches : Fetches) (a : ℕ) (outcome : Result Flow FlowRefusal
 
 abbrev pub HasFlow : Fetches → ℕ → Flow → Type 0
 HasFlow fetches a flow = Judged fetches a (Ok flow)
+
+pub record IsCode (fetches : Fetches) (c : CodePoint) : Type 0 where
+  pub instr : HasInstr fetches c.point.address (record { word = c.word; length = c.length }) c.instr
+  pub flow : HasFlow fetches c.point.address c.flow

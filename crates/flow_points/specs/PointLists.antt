@@ -12,10 +12,9 @@ use Rattle.std.specs.Prelude.{◌≡◌, ◌⊎◌, ℕ, ◌<◌, ◌≤◌, nat
 use Rattle.std.specs.List.{dedup}
 use Rattle.std.specs.Ordering.{nat_cmp, ordering_then}
 use Rattle.std.specs.declared.cmp.Ordering.{Ordering}
-use Rattle.flow_points.specs.Flows.{Fetches, fetches_of}
+use Rattle.flow_points.specs.Flows.{fetches_of, Fetches, IsCode}
 use Rattle.elf_image.specs.declared.image.Image.{Image}
 use Rattle.flow_points.specs.Walks.{FlowWalk, most_points}
-use Rattle.flow_points.specs.Sites.{IsCode}
 use Rattle.flow_points.specs.declared.code_points.Point.{Point}
 use Rattle.flow_points.specs.declared.code_points.CodePoint.{CodePoint}
 

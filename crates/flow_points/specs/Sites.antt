@@ -2,8 +2,6 @@
 -- order in which they were found. No public contract cites these words.
 --
 --   auipc_field instr r               the field of an AUIPC with the destination r
---   IsCode fetches c                  the word, its length, the instruction and the flow of c are those at its
---                                     address
 --   IsSite fetches p s                s is what there is at the point p
 --   HasSite entries p                 the point p was found
 --   HasSuccessors entries found       so were the points where the flow goes on from this entry
@@ -15,10 +13,9 @@ use Rattle.std.specs.Prelude.{◌≡◌, ◌↔◌, ℕ, ◌≤◌, ◌==◌, Is
 use Rattle.std.specs.Map.{keys_of}
 use Rattle.rv_instr.specs.declared.Instr.{Instr}
 use Rattle.rv_instr.specs.declared.Instr.TheVariants.{Auipc}
-use Rattle.flow_points.specs.Flows.{Fetches, HasFlow, HasInstr, IsSecondHalf, Judged}
+use Rattle.flow_points.specs.Flows.{Fetches, IsCode, IsSecondHalf, Judged}
 use Rattle.flow_points.specs.Walks.{FlowWalk, HasMoreThan, most_points, start, successors_of}
 use Rattle.flow_points.specs.declared.code_points.Point.{Point}
-use Rattle.flow_points.specs.declared.code_points.CodePoint.{CodePoint}
 use Rattle.flow_points.specs.declared.code_points.Site.{Site}
 use Rattle.refusals.specs.declared.flow.FlowRefusal.{FlowRefusal}
 use Rattle.refusals.specs.declared.flow.FlowRefusal.TheVariants.{TooManyPoints, Memory}
@@ -26,10 +23,6 @@ use Rattle.refusals.specs.declared.flow.FlowRefusal.TheVariants.{TooManyPoints, 
 abbrev pub auipc_field : Instr → ℕ → Option ℕ
 auipc_field (Auipc rd imm) r = if rd == r then Some imm else None
 auipc_field _ r = None
-
-pub record IsCode (fetches : Fetches) (c : CodePoint) : Type 0 where
-  pub instr : HasInstr fetches c.point.address (record { word = c.word; length = c.length }) c.instr
-  pub flow : HasFlow fetches c.point.address c.flow
 
 pub record IsSite (fetches : Fetches) (p : Point) (s : Site) : Type 0 where
   pub code : IfOk s.code (λ c. (c.point ≡ p) × IsCode fetches c)

@@ -1,9 +1,8 @@
 -- Each point ends a walk of its procedure.
 use Rattle.std.proofs.Common.{◌≡◌, ◌⊎◌, ℕ, List, [], ◌∷◌, Contains, Ok, refl, sym, ap, subst, ◌∙◌, inl, inr}
 use Rattle.std.proofs.lemmas.List.Elements.{All-contains}
-use Rattle.flow_points.specs.Flows.{HasFlow}
+use Rattle.flow_points.specs.Flows.{HasFlow, IsCode}
 use Rattle.flow_points.specs.Walks.{FlowWalk, begin as begin_flow, onward as onward_flow, point, successors_of}
-use Rattle.flow_points.specs.Sites.{IsCode}
 use Rattle.flow_points.specs.PointLists.{FlowPoints, HasCode}
 use Rattle.flow_points.specs.declared.code_points.Point.{Point}
 use Rattle.flow_points.specs.declared.code_points.Flow.{Flow}

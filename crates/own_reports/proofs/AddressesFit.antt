@@ -10,10 +10,9 @@ use Rattle.elf_image.specs.declared.fetched.Fetched.{Fetched}
 use Rattle.elf_image.specs.declared.image.Image.{Image}
 use Rattle.elf_image.specs.declared.range.Range.{Range}
 use Rattle.elf_image.proofs.Laws.{loadable}
-use Rattle.flow_points.specs.Flows.{fetches_of}
+use Rattle.flow_points.specs.Flows.{fetches_of, IsCode}
 use Rattle.flow_points.specs.Walks.{point}
 use Rattle.flow_points.specs.PointLists.{ArePointsOf, FlowPoints}
-use Rattle.flow_points.specs.Sites.{IsCode}
 use Rattle.flow_points.specs.declared.code_points.CodePoint.{CodePoint}
 use Rattle.flow_points.specs.declared.code_points.Point.{Point}
 use Rattle.flow_points.proofs.Cited.{from_map}

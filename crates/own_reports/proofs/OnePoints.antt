@@ -3,10 +3,9 @@ use Rattle.std.proofs.Common.{◌≡◌, ℕ, nat_eq, List, Ok, Contains, inl, i
 use Rattle.std.specs.List.{dedup}
 use Rattle.std.proofs.lemmas.List.Elements.{All-contains}
 use Rattle.elf_image.specs.declared.fetched.Fetched.{Fetched}
-use Rattle.flow_points.specs.Flows.{Fetches, HasFlow, HasInstr}
+use Rattle.flow_points.specs.Flows.{Fetches, HasFlow, HasInstr, IsCode}
 use Rattle.flow_points.specs.Walks.{FlowWalk}
 use Rattle.flow_points.specs.PointLists.{ArePoints, FlowPoints, IsBefore, entries_of}
-use Rattle.flow_points.specs.Sites.{IsCode}
 use Rattle.flow_points.specs.declared.code_points.CodePoint.{CodePoint}
 use Rattle.flow_points.specs.declared.code_points.Flow.{Flow}
 use Rattle.flow_points.specs.declared.code_points.Point.{Point}

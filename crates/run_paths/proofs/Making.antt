@@ -8,9 +8,8 @@ use Rattle.rv_decode.specs.Instructions.{IsWellFormed}
 use Rattle.rv_instr.specs.declared.Instr.{Instr}
 use Rattle.rvc_expand.specs.Lengths.{MeansWithLength}
 use Rattle.rvc_expand.proofs.Cited.{one_meaning}
-use Rattle.flow_points.specs.Flows.{fetches_of, HasUpper, Judged, base_of, flow_of, next, known, outside, unknown}
+use Rattle.flow_points.specs.Flows.{base_of, fetches_of, flow_of, known, next, outside, unknown, HasUpper, IsCode, Judged}
 use Rattle.flow_points.specs.PointLists.{ArePointsOf, FlowPoints}
-use Rattle.flow_points.specs.Sites.{IsCode}
 use Rattle.flow_points.specs.declared.code_points.CodePoint.{CodePoint}
 use Rattle.flow_points.specs.declared.code_points.Flow.{Flow}
 use Rattle.refusals.specs.declared.flow.FlowRefusal.{FlowRefusal}

@@ -5,7 +5,7 @@ use Rattle.std.proofs.lemmas.List.Elements.{All-push, All-contains, All-contains
 use Rattle.std.proofs.lemmas.Option.{get_or_from_slice_get, slice_get_within}
 use Rattle.elf_image.specs.declared.fetched.Fetched.{Fetched}
 use Rattle.flow_points.specs.PointLists.{FlowPoints, HasCode}
-use Rattle.flow_points.specs.Sites.{IsCode}
+use Rattle.flow_points.specs.Flows.{IsCode}
 use Rattle.flow_points.specs.declared.code_points.CodePoint.{CodePoint}
 use Rattle.flow_points.proofs.Cited.{from_map, item_there}
 use Rattle.run_watch.specs.declared.places.CodeAt.{CodeAt}

@@ -5,13 +5,13 @@ ghost use Rattle.rv_step.specs.Harts.{Hart, IsSame};
 ghost use Rattle.rv_step.specs.Machines.{hart_of, made_of};
 ghost use Rattle.rv_step.specs.Own.{IsOwn, IsStore};
 ghost use Rattle.rv_step.specs.Steps.{Step, IsAt};
-ghost use Rattle.rv_step.specs.Records.{StopsWith, StopsAt, IsAtStore, IsRecord, store_of};
+ghost use Rattle.rv_step.specs.Records.{StopsWith, StopsAt, IsAtStore, IsRecord};
 ghost use Rattle.rv_decode.specs.Instructions.{IsWellFormed};
 ghost use Rattle.rv_step.specs.declared.records.Stop.{Stop};
 
 use crate::Memory;
 use crate::machine::Machine;
-use crate::records::{StepRec, Stop, StoreRec};
+use crate::records::{StepRec, Stop};
 use elf_image::Fetched;
 use rv_decode::Instr;
 use rvc_expand::decode_with_length;
@@ -76,13 +76,12 @@ impl Machine {
         }
     }
 
-    /// Makes the step of an instruction at pc that is the machine's own, and tells the store alone.
-    pub fn advance(&mut self, at: Fetched, instr: Instr) -> Result<Option<StoreRec>, Memory>
+    /// Makes the step of an instruction at pc that is the machine's own, and tells nothing of it.
+    pub fn advance(&mut self, at: Fetched, instr: Instr) -> Result<(), Memory>
         requires is_at { IsAt (hart_of self.old) at instr }
         requires well_formed { IsWellFormed instr }
         requires own { IsOwn instr }
         ensures stepped { OnOk result (Step (hart_of self.old) (hart_of self.new)) }
-        ensures told { IfOk result (λ store. store ≡ store_of instr (hart_of self.old) (hart_of self.new)) }
         ensures counted { OnOk result (made_of self.new ≡ min (made_of self.old + 1) (2 ^ 64 - 1)) }
         ensures stays { OnErr result (IsSame (hart_of self.new) (hart_of self.old)) }
         ensures count_stays { OnErr result (made_of self.new ≡ made_of self.old) }
@@ -90,9 +89,9 @@ impl Machine {
     {
         let next = self.pc.wrapping_add(u64::from(at.length));
         match self.execute(instr, next) {
-            Ok(store) => {
+            Ok(_) => {
                 self.made = self.made.saturating_add(1);
-                Ok(store)
+                Ok(())
             }
             Err(_) => Err(Memory),
         }
@@ -112,17 +111,21 @@ impl Machine {
         ensures at_store { OnErr result (IsStore instr) }
     {
         let (index, pc, regs) = (self.made, self.pc, self.registers);
-        match self.advance(at, instr) {
-            Ok(store) => Ok(StepRec {
-                index,
-                made: true,
-                pc,
-                word: at.word,
-                length: at.length,
-                regs,
-                next: self.pc,
-                store,
-            }),
+        let next = pc.wrapping_add(u64::from(at.length));
+        match self.execute(instr, next) {
+            Ok(store) => {
+                self.made = index.saturating_add(1);
+                Ok(StepRec {
+                    index,
+                    made: true,
+                    pc,
+                    word: at.word,
+                    length: at.length,
+                    regs,
+                    next: self.pc,
+                    store,
+                })
+            }
             Err(_) => Err(Stop::Memory),
         }
     }
