@@ -1,0 +1,5 @@
+use Rattle.never_neither.proofs.ProgramsThere.{heads_counted}
+use Rattle.never_neither.proofs.laws.heads_are_counted.Goals as goal
+
+pub returns : goal.returns
+returns c = λ program few many. heads_counted program few many
