@@ -22,7 +22,8 @@ use Rattle.flow_points.proofs.SamePoint.{tells}
 use Rattle.refusals.specs.declared.flow.FlowRefusal.{FlowRefusal}
 use Rattle.refusals.specs.declared.flow.FlowRefusal.TheVariants.{TooManyPoints}
 use Rattle.analyser_core.specs.Accepted.{HasPoints}
-use Rattle.never_neither.proofs.Searching.{AreApart, all_sites}
+use Rattle.never_neither.proofs.Searching.{all_sites}
+use Rattle.never_neither.proofs.Missing.{AreApart}
 use Rattle.never_neither.proofs.SitesThere.{Site}
 use Rattle.never_neither.proofs.Sorting.{IsSortedOf, sort}
 

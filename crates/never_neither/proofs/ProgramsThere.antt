@@ -1,12 +1,8 @@
--- Points and names have a program, and its heads are counted.
-use Rattle.std.proofs.Common.{◌≡◌, ◌↔◌, ℕ, zero, suc, ◌+◌, ◌<◌, ◌≤◌, List, [], ◌∷◌, length, map, slice_index, Contains, Option, None, Some, slice_get, inl, inr, refl, sym, subst, arith}
-use Rattle.std.specs.List.Sorted.{IsStrictlyIncreasing}
-use Rattle.std.proofs.lemmas.Bool.{cases_eq, cases_lt}
-use Rattle.std.proofs.lemmas.List.Elements.{Contains-append_right, Contains-get_or}
+-- Points and names have a program.
+use Rattle.std.proofs.Common.{◌≡◌, ℕ, ◌+◌, ◌<◌, List, length, map, Option, None, Some, slice_get, inl, inr, refl, sym, subst}
 use Rattle.std.proofs.lemmas.Option.{slice_get_within}
 use Rattle.flow_points.specs.PointLists.{FlowPoints, HasCode}
 use Rattle.flow_points.specs.declared.code_points.CodePoint.{CodePoint}
-use Rattle.flow_points.proofs.Cited.{cons_cases}
 use Rattle.frame_offsets.specs.Frames.{HasOffset, IsOffset}
 use Rattle.affine_prog.specs.declared.Program.{Program}
 use Rattle.affine_lift.specs.declared.width.Width.TheVariants.{Wide}
@@ -14,9 +10,6 @@ use Rattle.affine_lift.specs.Effects.{AreOffsetsAt}
 use Rattle.affine_lift.specs.Lifting.{IsLifted, TellsOffsets, edges_along_by, is_tracked_register, node_of, number_of, owners_in, positions_where, proc_of}
 use Rattle.affine_lift.proofs.Cited.{node_is, number_at}
 use Rattle.report_text.specs.declared.names.Name.{Name}
-use Rattle.block_program.specs.Chains.{IsHead, IsInner}
-use Rattle.block_program.specs.BlockPrograms.{NumbersHeads}
-use Rattle.analyser_core.specs.Heads.{HasFewHeads, HasManyHeads, most_heads}
 use Rattle.never_neither.proofs.Deciding.{choose, decide}
 
 module _ (points : List CodePoint) where
@@ -78,71 +71,3 @@ module _ (points : FlowPoints) (names : List Name) (has : HasCode points) where
         offsets_are = tells table are;
         edges = refl;
       }))
-
-module _ (program : Program) where
-  -- the heads from a node on
-  record AreHeadsFrom (n : ℕ) (heads : List ℕ) : Type 0 where
-    pub order : IsStrictlyIncreasing heads
-    pub all : (u : ℕ) → Contains heads u ↔ ((n ≤ u) × IsHead program u)
-
-  module _ (n : ℕ) (heads : List ℕ) (h : AreHeadsFrom (n + 1) heads) where
-    heads_stay : IsInner program n → AreHeadsFrom n heads
-    heads_stay inner = record {
-      order = h.order;
-      all = λ u. (
-        λ there. let r = (h.all u).0 there in (let low = r.0 in omega (arith, low), r.1),
-        λ d. elim (cases_eq u n) [
-          | inl same ↦ absurd (d.1.not_inner (subst (IsInner program) (sym same) inner))
-          | inr other ↦ let low = d.0 in (h.all u).1 (omega (arith, low, other), d.1)
-        ],
-      );
-    }
-
-    first_low : (k : ℕ) → k + 1 < length (n ∷ heads) → slice_index (n ∷ heads) k < slice_index (n ∷ heads) (k + 1)
-    first_low zero within =
-        let low = ((h.all (slice_index heads 0)).0 (Contains-get_or heads 0 0 (omega (arith, within)))).0 in omega (arith, low)
-    first_low (suc k) within =
-        subst (λ (i : ℕ). slice_index heads k < slice_index (n ∷ heads) i) (let e : suc (k + 1) ≡ suc k + 1 = omega arith in e)
-        (h.order k (omega (arith, within)))
-
-    heads_more : IsHead program n → AreHeadsFrom n (n ∷ heads)
-    heads_more head = record {
-      order = first_low;
-      all = λ u. (
-        λ there. elim (cons_cases n heads u there) [
-          | inl same ↦ (omega (arith, same), subst (IsHead program) same head)
-          | inr later ↦ let r = (h.all u).0 later in (let low = r.0 in omega (arith, low), r.1)
-        ],
-        λ d. elim (cases_eq u n) [
-          | inl same ↦ (0, omega arith, sym same)
-          | inr other ↦ let low = d.0 in Contains-append_right (n ∷ []) heads u ((h.all u).1 (omega (arith, low, other), d.1))
-        ],
-      );
-    }
-
-  heads_from : (k n : ℕ) → n + k ≡ program.nodes → ((heads : List ℕ) → AreHeadsFrom n heads → ⊥) → ⊥
-  heads_from zero n is none = none [] (record {
-    order = λ k within. absurd (omega (arith, within));
-    all = λ u. (
-      λ there. absurd (omega (arith, there.1)),
-      λ d. let low = d.0 in let high = d.1.node in absurd (omega (arith, low, high, is)),
-    );
-  })
-  heads_from (suc k) n is none =
-      heads_from k (n + 1) (omega (arith, is)) (λ heads h.
-      decide (IsInner program n) (λ d. elim d [
-        | inl inner ↦ none heads (heads_stay n heads h inner)
-        | inr outer ↦ none (n ∷ heads) (heads_more n heads h (record { node = omega (arith, is); not_inner = outer }))
-      ]))
-
-  pub heads_counted : (HasFewHeads program → ⊥) → (HasManyHeads program → ⊥) → ⊥
-  heads_counted few many =
-      heads_from program.nodes 0 (omega arith) (λ heads h.
-      let numbers : NumbersHeads program heads = record {
-        order = h.order;
-        all = λ u. (λ there. ((h.all u).0 there).1, λ d. (h.all u).1 (omega arith, d));
-      } in
-      elim (cases_lt most_heads (length heads)) [
-        | inl more ↦ many (record { heads = heads; numbers = numbers; many = more })
-        | inr most ↦ few (record { heads = heads; numbers = numbers; few = most })
-      ])

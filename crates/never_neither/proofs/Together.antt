@@ -16,7 +16,8 @@ use Rattle.analyser_core.specs.declared.refusal.Refusal.TheVariants.{Elf, Flow, 
 use Rattle.never_neither.specs.NeverNeither.{IsTaken, IsUnrefused}
 use Rattle.never_neither.proofs.NamesThere.{list_read}
 use Rattle.never_neither.proofs.PointsThere.{points_found}
-use Rattle.never_neither.proofs.ProgramsThere.{heads_counted, program_there}
+use Rattle.never_neither.proofs.ProgramsThere.{program_there}
+use Rattle.never_neither.proofs.HeadsCounted.{heads_counted}
 
 pub image_made : (bytes : List ℕ) → ((refusal : ElfRefusal) → refusal_of bytes ≡ Some refusal → ⊥) → (image : Image) × IsImageOf bytes image
 image_made bytes fine = by (refusal_of bytes) refl

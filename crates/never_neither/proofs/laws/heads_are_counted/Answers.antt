@@ -1,4 +1,4 @@
-use Rattle.never_neither.proofs.ProgramsThere.{heads_counted}
+use Rattle.never_neither.proofs.HeadsCounted.{heads_counted}
 use Rattle.never_neither.proofs.laws.heads_are_counted.Goals as goal
 
 pub returns : goal.returns
