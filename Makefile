@@ -5,6 +5,7 @@ SLOTS = 0x10010:-8,0x10010:-16,0x10044:-8
 FILE = $(EXAMPLE)
 TRACK = sp,ra,s0,a0$(if $(filter $(EXAMPLE),$(FILE)),$(COMMA)$(SLOTS))
 COMMA = ,
+CRATE = analyser_main
 export FILE TRACK
 
 REPORT = $(if $(filter $(EXAMPLE),$(FILE)),examples/saved_registers.report)
