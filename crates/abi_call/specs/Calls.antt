@@ -13,7 +13,7 @@ abbrev pub texts_of : List (String Global) → List (List ℕ)
 texts_of words = map (λ w. string_bytes w) words
 
 abbrev pub usage_text : List ℕ
-usage_text = codes "usage:\nabi_check FILE\n"
+usage_text = codes "usage:\nabi-check FILE\n"
 
 pub record IsUsage (status : ℕ) (text : List ℕ) : Type 0 where
   pub status_is : status ≡ 2

@@ -19,7 +19,7 @@ use std::io;
 use std::io::ErrorKind;
 use std::process::ExitCode;
 
-const USAGE: &[u8] = b"usage:\nabi_check FILE\n";
+const USAGE: &[u8] = b"usage:\nabi-check FILE\n";
 
 /// Reads the file that the one argument names, those after the program's name, puts what is told of its routines into
 /// the sink, and gives the exit status.

@@ -19,7 +19,7 @@ const RET: u32 = 0x00008067;
 // addi sp,sp,-16
 const DOWN: u32 = 0xff010113;
 
-const USAGE: &str = "usage:\nabi_check FILE\n";
+const USAGE: &str = "usage:\nabi-check FILE\n";
 
 const CALLS: &[Call] = &[
     Call {
