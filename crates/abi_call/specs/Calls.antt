@@ -3,8 +3,9 @@
 --   texts_of words                     the bytes of each word
 --   usage_text                         how it is called
 --   IsUsage status text                what words get that aren't one
---   IsCarriedOut words call answer     one word is the name of a file, whose bytes are answered; all else is told how to call
-use Rattle.std.specs.Prelude.{◌≡◌, ◌≢◌, ℕ, List, [], ◌∷◌, map, codes, length, String, string_bytes}
+--   file_in words                      the file that the one word names
+--   IsCarriedOut file call answer      a file's bytes are answered; without one the call is told how it is made
+use Rattle.std.specs.Prelude.{◌≡◌, ℕ, List, [], ◌∷◌, map, codes, Option, Some, None, String, string_bytes}
 use Rattle.std.specs.declared.alloc.Global.{Global}
 use Rattle.call_ends.specs.Calls.{Call, Ends, EndsOver}
 use Rattle.abi_answers.specs.Answers.{IsAnswer}
@@ -19,6 +20,11 @@ pub record IsUsage (status : ℕ) (text : List ℕ) : Type 0 where
   pub status_is : status ≡ 2
   pub text_is : text ≡ usage_text
 
-pub data IsCarriedOut (words : List (List ℕ)) (c : Call) (answer : ℕ) : Type 0 where
-  checked : (file : List ℕ) → words ≡ file ∷ [] → EndsOver file IsAnswer c answer → IsCarriedOut words c answer
-  usage : length words ≢ 1 → Ends IsUsage ⊥ c answer → IsCarriedOut words c answer
+abbrev pub file_in : List (List ℕ) → Option (List ℕ)
+file_in [] = None
+file_in (file ∷ []) = Some file
+file_in (file ∷ more ∷ words) = None
+
+abbrev pub IsCarriedOut : Option (List ℕ) → Call → ℕ → Type 0
+IsCarriedOut (Some file) c answer = EndsOver file IsAnswer c answer
+IsCarriedOut None c answer = Ends IsUsage ⊥ c answer

@@ -1,6 +1,6 @@
 //! Calls.
 
-ghost use Rattle.std.specs.Prelude.{◌≡◌, ◌≢◌, ◌<◌, IfErr, IfOk};
+ghost use Rattle.std.specs.Prelude.{◌≡◌, ◌≢◌, ◌<◌, IfErr, IfOk, option_map};
 ghost use Rattle.std.specs.IoError.{error_kind};
 ghost use Rattle.std.specs.Process.{exit_status};
 ghost use Rattle.outside.specs.Counts.{HasRisen};
@@ -8,7 +8,7 @@ ghost use Rattle.call_ends.specs.Calls.{Says, SaysIn, EndsOver, IsAnswerOver, ca
 ghost use Rattle.call_ends.specs.Replies.{AnswersWith};
 ghost use Rattle.abi_answers.specs.Answers.{IsAnswer};
 ghost use Rattle.abi_answers.specs.Laws.{AnswersTellOfRuns};
-ghost use Rattle.abi_call.specs.Calls.{texts_of, usage_text, IsCarriedOut};
+ghost use Rattle.abi_call.specs.Calls.{texts_of, usage_text, file_in, IsCarriedOut};
 
 use abi_answers::answer_to_check;
 use abi_answers::laws::answers_tell_of_runs;
@@ -29,7 +29,7 @@ pub fn abi_main<F: Files, K: Sink>(
     files: &mut F,
     out: &mut K,
 ) -> u8
-    ensures carried_out { IsCarriedOut (texts_of words.now)
+    ensures carried_out { IsCarriedOut (file_in (texts_of words.now))
         (call F.contents F.faults K.written K.faults files.old files.new out.old out.new) result }
     // Where the sink's count rose, the answer says so.
     ensures counted { K.faults out.old < K.faults out.new → result ≡ 4 }
@@ -37,9 +37,9 @@ pub fn abi_main<F: Files, K: Sink>(
     ensures runs { AnswersTellOfRuns }
 {
     answers_tell_of_runs();
-    match words {
-        [file] => check_file(alloc, files, out, file.as_str()),
-        _ => say_usage(out),
+    match file_in(words) {
+        Some(file) => check_file(alloc, files, out, file),
+        None => say_usage(out),
     }
 }
 
@@ -51,22 +51,30 @@ pub fn run_with<F: Files, K: Sink>(
     files: &mut F,
     out: &mut K,
 ) -> ExitCode
-    ensures given { IfOk words (λ w. IsCarriedOut (texts_of w.items)
+    ensures given { IfOk words (λ w. IsCarriedOut (file_in (texts_of w.items))
         (call F.contents F.faults K.written K.faults files.old files.new out.old out.new) (exit_status result)) }
     ensures no_memory { IfErr words (λ error. error_kind error ≡ ErrorKind.OutOfMemory → SaysIn
         (call F.contents F.faults K.written K.faults files.old files.new out.old out.new) 5 no_memory_text (exit_status result)) }
     ensures no_words { IfErr words (λ error. error_kind error ≢ ErrorKind.OutOfMemory → SaysIn
         (call F.contents F.faults K.written K.faults files.old files.new out.old out.new) 2 usage_text (exit_status result)) }
     ensures counted { K.faults out.old < K.faults out.new → exit_status result ≡ 4 }
-    ensures runs { AnswersTellOfRuns }
 {
-    answers_tell_of_runs();
     let status = match words {
         Ok(words) => abi_main(alloc, &words, files, out),
         Err(error) if error.kind() == ErrorKind::OutOfMemory => say_reply(out, Reply::OutOfMemory),
         Err(_) => say_usage(out),
     };
     ExitCode::from(status)
+}
+
+// The file that the one argument names.
+fn file_in(words: &[String]) -> Option<&str>
+    ensures { option_map (λ w. w.now) result ≡ file_in (texts_of words.now) }
+{
+    match words {
+        [file] => Some(file.as_str()),
+        _ => None,
+    }
 }
 
 fn say_usage<K: Sink>(out: &mut K) -> u8
