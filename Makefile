@@ -1,5 +1,6 @@
-# Short ways to try, to build, to test and to install the analyser: `make` lists them.
+# Short ways to try, to build, to test and to install the programs: `make` lists them.
 PROGRAM = crates/analyser_main/out/analyser_main
+CHECKER = crates/abi_check/out/abi_check
 EXAMPLE = examples/saved_registers.elf
 SLOTS = 0x10010:-8,0x10010:-16,0x10044:-8
 FILE = $(EXAMPLE)
@@ -14,11 +15,12 @@ export REPORT STEPS REGS
 
 # The programs that are installed: each name, and the crate that it is.
 INSTALLED = \
-	affine-relations=analyser_main
+	affine-relations=analyser_main \
+	abi-check=abi_check
 PREFIX = /usr/local
 DESTDIR =
 
-.PHONY: help demo analyse cert list run upgrade narrow build install test large hostile faults readme bench edits
+.PHONY: help demo analyse cert list run upgrade narrow check build install test large hostile faults readme bench edits
 
 help:
 	@echo 'make demo                       what the program tells of $(EXAMPLE)'
@@ -28,22 +30,24 @@ help:
 	@echo 'make run FILE=F REPORT=R STEPS=N REGS=..  a run of F against the report R, with these registers'
 	@echo 'make upgrade FILE=F REPORT=R    the report R with certificates'
 	@echo 'make narrow FILE=F TRACK=LIST   relations of the low 32 bits of the names of LIST'
+	@echo 'make check FILE=F               whether the routines of F keep sp, ra and s0 to s11, with no list of names'
 	@echo
-	@echo 'These run the program that make build made, at once, where no source is newer than it; else each compiles the'
+	@echo 'These run the programs that make build made, at once, where no source is newer; else each compiles the'
 	@echo 'sources anew, without proofs: 67 to 114 s where it was measured, with four processors.'
 	@echo
-	@echo 'make build                      proves and builds the program                  half an hour or more where nothing is kept'
-	@echo 'make install PREFIX=P           the proved program as P/bin/affine-relations, and its manual page'
+	@echo 'make build                      proves and builds the programs                 half an hour or more where nothing is kept'
+	@echo 'make install PREFIX=P           the proved programs as P/bin/affine-relations and P/bin/abi-check, and their manual pages'
 	@echo 'make test                       the whole test, rt ci                          an hour or more where nothing is kept'
 	@echo 'make large                      the built program on inputs near the limits    half a minute'
 	@echo 'make hostile                    the built program on damaged and odd files and outputs     half a minute'
 	@echo 'make faults                     each allocation, read and write of the built program fails in turn   half a minute'
-	@echo 'make readme                     each command of README.md and of the manual page, with what they show, and make'"'"'s messages'
+	@echo 'make readme                     each command of README.md and of the manual pages, with what they show, and make'"'"'s messages'
 	@echo 'make bench                      times of the built program on files of growing size   some seconds'
 	@echo 'make edits                      further wrong bodies, each of which the proof must refuse     half an hour or more'
 	@echo
-	@echo 'The built program lies at $(PROGRAM); run it as'
+	@echo 'The built programs lie at $(PROGRAM) and $(CHECKER); run them as'
 	@echo '  $(PROGRAM) analyse FILE --track LIST'
+	@echo '  $(CHECKER) FILE'
 
 demo:
 	@tools/demo
@@ -66,10 +70,15 @@ upgrade:
 narrow:
 	@tools/order narrow --track "$$TRACK"
 
+check:
+	@tools/order check
+
 build:
 	@cd crates/analyser_main && rt run -- list ../../examples/one_register.elf
 	@touch .built-analyser_main
-	@echo 'make: built, proved: $(PROGRAM)'
+	@cd crates/abi_check && rt run -- ../../examples/one_register.elf
+	@touch .built-abi_check
+	@echo 'make: built, proved: $(PROGRAM), $(CHECKER)'
 
 install:
 	@PREFIX='$(DESTDIR)$(PREFIX)' tools/install $(INSTALLED)
@@ -87,7 +96,7 @@ is_built:
 
 readme: is_built
 	@python3 tests/messages.py
-	@python3 tests/readme.py README.md docs/affine-relations.md
+	@python3 tests/readme.py README.md docs/affine-relations.md docs/abi-check.md
 
 test:
 	rt ci

@@ -16,7 +16,7 @@ import sys
 import tempfile
 
 TOP = os.path.join(os.path.dirname(os.path.abspath(__file__)), "..")
-PROGRAM = "crates/analyser_main/out/analyser_main"
+PROGRAMS = ["crates/analyser_main/out/analyser_main", "crates/abi_check/out/abi_check"]
 LONG = ["make build", "rt ci", "make edits", "make test"]
 
 
@@ -52,12 +52,13 @@ def agrees(shown, told):
 
 
 def copied(folder):
-    """A copy of the repository, with the built program where there is one."""
+    """A copy of the repository, with the built programs where they are there."""
     place = os.path.join(folder, "repository")
     shutil.copytree(TOP, place, ignore=shutil.ignore_patterns("out", ".git", "__pycache__"))
-    if os.path.exists(os.path.join(TOP, PROGRAM)):
-        os.makedirs(os.path.dirname(os.path.join(place, PROGRAM)))
-        shutil.copy2(os.path.join(TOP, PROGRAM), os.path.join(place, PROGRAM))
+    for program in PROGRAMS:
+        if os.path.exists(os.path.join(TOP, program)):
+            os.makedirs(os.path.dirname(os.path.join(place, program)))
+            shutil.copy2(os.path.join(TOP, program), os.path.join(place, program))
     return place
 
 
