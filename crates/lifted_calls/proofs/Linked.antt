@@ -1,9 +1,7 @@
 -- The instruction of a call, and what it assigns.
-use Rattle.std.proofs.Common.{◌≡◌, ℕ, ◌%◌, ℤ, pos, Bool, true, false, cond, [], ◌∷◌, ◌++◌, List, Contains, Option, None, Some, Result, Ok, Err, refl, ap, sym, ◌∙◌, subst, if◌then◌else◌, ◌==◌, ◌&&◌, ◌||◌}
+use Rattle.std.proofs.Common.{◌≡◌, ℕ, ◌%◌, ℤ, Bool, true, false, [], ◌∷◌, ◌++◌, List, Contains, Option, None, Some, Result, Ok, Err, refl, ap, sym, ◌∙◌, subst, if◌then◌else◌, ◌==◌}
 use Rattle.std.specs.Option.{option_map_or}
-use Rattle.std.specs.Ordering.{int_eq}
 use Rattle.std.proofs.lemmas.List.Elements.{All-contains}
-use Rattle.elf_image.specs.declared.fetched.Fetched.{Fetched}
 use Rattle.rv_instr.specs.declared.Instr.{Instr}
 use Rattle.rv_instr.specs.declared.Instr.TheVariants.{Lui, Auipc, Jal, Jalr, Branch as BranchInstr, Load, Store, Imm, Shift, Reg, Fence, Ecall, Ebreak}
 use Rattle.flow_points.specs.Flows.{Fetches, IsCode, Judged, aligned, flow_of, known, outside, unknown}
@@ -17,8 +15,6 @@ use Rattle.flow_points.proofs.Cited.{same_flow}
 use Rattle.flow_points.proofs.OneOutcome.{one_instr}
 use Rattle.report_text.specs.declared.names.Name.{Name}
 use Rattle.affine_prog.specs.Assignments.{unknown_count}
-use Rattle.affine_prog.specs.declared.Assign.{Assign}
-use Rattle.affine_lift.specs.declared.value.Value.{Value}
 use Rattle.affine_lift.specs.declared.width.Width.{Width}
 use Rattle.affine_lift.specs.declared.width.Width.TheVariants.{Wide, Narrow}
 use Rattle.affine_lift.specs.Values.{assigned, constant, link_value, place_of}

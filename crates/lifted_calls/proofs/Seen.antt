@@ -1,9 +1,9 @@
 -- A row between names that are seen.
-use Rattle.std.proofs.Common.{◌≡◌, ◌≢◌, ℕ, ◌<◌, List, slice_get, Some, get_or, inl, inr, ⊎_elim, false}
+use Rattle.std.proofs.Common.{◌≡◌, ◌≢◌, ℕ, ◌<◌, List, slice_get, Some, ⊎_elim}
 use Rattle.std.specs.Prelude.{slice_index}
 use Rattle.std.proofs.lemmas.Bool.{cases_eq}
 use Rattle.word_rows.specs.Rows.{IsRow}
-use Rattle.row_modules.specs.Positions.{has, with_constant, IsZeroOutside}
+use Rattle.row_modules.specs.Positions.{with_constant, IsZeroOutside}
 use Rattle.row_modules.proofs.Laws.{in_not_out, zero_outside_below}
 use Rattle.affine_prog.specs.Programs.{owner_of, visible_in}
 use Rattle.affine_prog.specs.declared.Program.{Program}

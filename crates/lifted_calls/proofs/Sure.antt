@@ -1,5 +1,5 @@
 -- The edges of a lifted program that are calls.
-use Rattle.std.proofs.Common.{◌≡◌, ℕ, suc, ◌<◌, List, [], ◌∷◌, get_or, flat_map, All, Contains, Option, refl, sym, subst, arith}
+use Rattle.std.proofs.Common.{◌≡◌, ℕ, suc, List, [], ◌∷◌, get_or, flat_map, All, Contains, refl, sym, subst, arith}
 use Rattle.std.proofs.lemmas.List.Elements.{All-append, All-contains_itself, All-nil}
 use Rattle.affine_prog.specs.Assignments.{unknown_count}
 use Rattle.affine_prog.specs.declared.Assign.{Assign}
