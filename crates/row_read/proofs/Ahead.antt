@@ -1,5 +1,5 @@
 -- A row's text, one term further.
-use Rattle.std.proofs.Common.{◌≡◌, inl, inr, ⊎_elim, ℕ, zero, suc, ◌+◌, ◌-◌, ◌<◌, ◌≤◌, Bool, true, false, cond, eqb, List, [], ◌∷◌, ◌++◌, map, All, append_assoc, length, length-append, length-drop, length-take, take, drop, get_or, add-one, refl, sym, subst, ap, ◌∙◌, arith}
+use Rattle.std.proofs.Common.{◌≡◌, ⊎_elim, ℕ, zero, suc, ◌+◌, ◌-◌, ◌<◌, ◌≤◌, Bool, true, false, cond, eqb, List, [], ◌∷◌, ◌++◌, map, append_assoc, length, length-append, length-drop, length-take, take, get_or, add-one, refl, sym, subst, ap, ◌∙◌, arith}
 use Rattle.std.specs.Prelude.{Result, Ok, Err}
 use Rattle.std.specs.List.{join_with_byte}
 use Rattle.std.proofs.Math.Seq.{take-append_seam}
@@ -69,8 +69,8 @@ refused_at names p terms c d k place (Order j) fine lt is told = record {
   number = told.0 ∙ is;
   fine = fine;
   known = subst (λ (term : Term). IsSeenName names p term.1) (get_or-take (k + 1) terms k (0, []) (omega arith))
-      (All-get_or (λ term. IsSeenName names p term.1) (take (k + 1) terms) k (0, []) (omega (arith, length-take (k + 1) terms)) told.1.0);
-  falls = λ rising. told.1.1 (subst (λ (n : ℕ). AreRising names (take n terms)) (told.0 ∙ is) rising);
+      (All-get_or (λ term. IsSeenName names p term.1) (take (k + 1) terms) k (0, []) (omega (arith, length-take (k + 1) terms)) told.1);
+  falls = λ rising. told.2 (subst (λ (n : ℕ). AreRising names (take n terms)) (told.0 ∙ is) rising);
 }
 
 -- before the first term
@@ -151,7 +151,7 @@ stopped names p text rest behind k at place refusal a is told = record {
 
 no_fault : (names : List Name) (p : ℕ) (terms : List Term) (c place : ℕ) (refusal : RowRefusal) → AreFine names p terms → IsFrontTold names p terms c place (Err refusal) → ⊥
 no_fault names p terms c place (UnknownName j) fine told = told.1 fine.known
-no_fault names p terms c place (Order j) fine told = told.1.1 fine.rising
+no_fault names p terms c place (Order j) fine told = told.2 fine.rising
 
 -- the whole text
 pub ended : (names : List Name) (p : ℕ) (text rest : List ℕ) (k place : ℕ) (result : Result (List ℕ) RowRefusal) → (u : IsReadUpTo names p text rest k) → HasNo 32 rest → place ≡ k + 1

@@ -1,2 +1,4 @@
 pub mod Joined
+pub mod OneFront
 pub mod Ahead
+pub mod Commas

@@ -53,10 +53,12 @@ fn read_front(
     requires shape { IsRowText front.now }
     ensures { (terms : List Term) (c : ℕ) → IsRelation terms c → front.now ≡ relation_text terms c → IsFrontTold names.now procedure terms c place result }
 {
-    match read_relation(names, procedure, front) {
-        Some(Relation::Row(row)) => Ok(row),
-        Some(Relation::UnknownName) => Err(RowRefusal::UnknownName(place)),
-        Some(Relation::Order) => Err(RowRefusal::Order(place)),
-        None => unreachable!(),
+    let Some(relation) = read_relation(names, procedure, front) else {
+        unreachable!();
+    };
+    match relation {
+        Relation::Row(row) => Ok(row),
+        Relation::UnknownName => Err(RowRefusal::UnknownName(place)),
+        Relation::Order => Err(RowRefusal::Order(place)),
     }
 }
