@@ -1,4 +1,6 @@
 pub mod Joined
-pub mod OneFront
+pub mod FirstTerms
 pub mod Ahead
+pub mod Stops
+pub mod OneFront
 pub mod Commas

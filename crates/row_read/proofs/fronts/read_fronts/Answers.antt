@@ -1,6 +1,7 @@
 use Rattle.std.proofs.Common.{◌+◌, ◌-◌, length, take, refl}
 use Rattle.row_read.specs.Fronts.{IsReadUpTo}
-use Rattle.row_read.proofs.Ahead.{begins, ahead, stopped, ended}
+use Rattle.row_read.proofs.Ahead.{ahead, begins}
+use Rattle.row_read.proofs.Stops.{ended, stopped}
 use Rattle.row_read.proofs.fronts.read_fronts.Goals as goal
 
 pub loop-word-init : goal.loop-word-init
