@@ -1,6 +1,6 @@
 //! The reader of a line.
 
-ghost use Rattle.std.specs.Prelude.{◌≢◌, ℕ, ◌≤◌, List, ◌++◌, codes};
+ghost use Rattle.std.specs.Prelude.{◌≡◌, ◌≢◌, ◌↔◌, ℕ, ◌≤◌, List, ◌++◌, codes, IsTrue};
 ghost use Rattle.proof_lines.specs.Lines.{IsLineReading, IsLineReadingOr, IsPlaceReading};
 
 use crate::words::read_words;
@@ -18,7 +18,9 @@ pub enum Line {
         address: Option<u64>,
     },
     /// A procedure, whose entry is meant.
-    Entry { proc_entry: u64 },
+    Entry {
+        proc_entry: u64,
+    },
     /// A row, by its words that aren't 0.
     Row(SparseRow),
     /// That claims follow.
@@ -40,9 +42,10 @@ fn row_line(alloc: Global, width: u64, text: &[u8]) -> Result<Option<Line>, Allo
     requires { width ≤ 512 }
     ensures { IsLineReadingOr width (codes "row " ++ text.now) result }
 {
-    match read_words(alloc, width, text)? {
-        None => Ok(None),
-        Some(words) => Ok(Some(Line::Row(SparseRow { words }))),
+    match read_words(alloc, width, text) {
+        Err(fault) => Err(fault),
+        Ok(None) => Ok(None),
+        Ok(Some(words)) => Ok(Some(Line::Row(SparseRow { words }))),
     }
 }
 
@@ -82,12 +85,12 @@ fn head_line(width: u64, text: &[u8]) -> Option<Line>
 fn read_place(text: &[u8]) -> Option<Option<u64>>
     ensures { IsPlaceReading text.now result }
 {
-    if text == b"exit" {
-        return Some(None);
-    }
-    match read_hex(text) {
-        None => None,
-        Some(address) => Some(Some(address)),
+    match text {
+        b"exit" => Some(None),
+        _ => match read_hex(text) {
+            None => None,
+            Some(address) => Some(Some(address)),
+        },
     }
 }
 
@@ -106,9 +109,15 @@ fn claims_line(width: u64, piece: &[u8]) -> Option<Line>
     requires no_entry { (rest : List ℕ) → piece.now ≢ codes "entry " ++ rest }
     ensures { IsLineReading width piece.now result }
 {
-    if piece == b"claims" {
+    if is_claims(piece) {
         Some(Line::Claims)
     } else {
         None
     }
+}
+
+fn is_claims(piece: &[u8]) -> bool
+    ensures { IsTrue result ↔ (piece.now ≡ codes "claims") }
+{
+    matches!(piece, b"claims")
 }
