@@ -2,7 +2,7 @@
 --
 --   IsNamed program deriv      the procedure or the edge that the derivation names is one of the program
 --   IsSoundIn program answer   the derivations of a counterexample are sound
-use Rattle.std.specs.Prelude.{ℕ, ◌<◌, length}
+use Rattle.std.specs.Prelude.{◌<◌, length}
 use Rattle.affine_prog.specs.declared.Program.{Program}
 use Rattle.refute_path.specs.declared.answer.Refuted.{Refuted}
 use Rattle.refute_path.specs.declared.answer.Refuted.TheVariants.{Holds, Broken}

@@ -13,16 +13,21 @@
 --   words_text words               words, each so
 --   each_text text names words     the texts of names with the words at their positions
 --   register_text name w           a register and its word behind a space, as `a0=5`; of a slot nothing
---   start_text names start         the registers among the names, each so
+--   registers_text names start     the registers among the names, each so
+--   start_line names start         the line of a start
 --   slot_text procedure name w     the word of a slot of the procedure; of another name nothing
 --   slots_text procedure names slots   the words of the slots that the procedure has among the names
+--   address_text point             the address of a point, or where there is none, that it is an exit
 --   place_text points u            the address of the point that node u is, or that it is an exit
 --   end_text points program e      so of the node at which edge e ends, behind a space
 --   deriv_text points names program deriv   an opening of a procedure, with its slots' words; a step behind the derivation with
 --                                  this number, to where its edge ends, with the words that are chosen; a call, with two numbers
 --   line_text points names program n deriv   the line of a derivation, whose number is n
 --   lines_text points names program n derivs   the lines of derivations, which have the numbers from n on
+--   path_line path                 the line of a path's numbers
+--   value_line value               the line of a value
 --   broken_text points names program found   a counterexample: its start, derivations, path and value
+--   answer_text points names program answer   that the row holds, or a counterexample
 --   refuted_text points names program answer   the whole text
 use Rattle.std.specs.Prelude.{ℕ, ◌+◌, ◌==◌, List, [], ◌∷◌, ◌++◌, map, flat_map, codes, Option, None, Some, slice_get, slice_index, if◌then◌else◌}
 use Rattle.number_text.specs.Numerals.{dec, hex}
@@ -54,8 +59,11 @@ abbrev pub register_text : Name → ℕ → List ℕ
 register_text (Register r) w = codes " " ++ name_of_register r ++ codes "=" ++ dec w
 register_text (Slot p below) w = []
 
-abbrev pub start_text : List Name → List ℕ → List ℕ
-start_text names start = each_text register_text names start
+abbrev pub registers_text : List Name → List ℕ → List ℕ
+registers_text names start = each_text register_text names start
+
+abbrev pub start_line : List Name → List ℕ → List ℕ
+start_line names start = codes "start" ++ registers_text names start ++ nl
 
 abbrev pub slot_text : ℕ → Name → ℕ → List ℕ
 slot_text procedure (Register r) w = []
@@ -87,10 +95,16 @@ abbrev pub lines_text : FlowPoints → List Name → Program → ℕ → List De
 lines_text points names program n [] = []
 lines_text points names program n (deriv ∷ derivs) = line_text points names program n deriv ++ lines_text points names program (n + 1) derivs
 
+abbrev pub path_line : List ℕ → List ℕ
+path_line path = codes "path" ++ words_text path ++ nl
+
+abbrev pub value_line : ℕ → List ℕ
+value_line value = codes "value " ++ dec value ++ nl
+
 abbrev pub broken_text : FlowPoints → List Name → Program → Break → List ℕ
 broken_text points names program found =
-    codes "broken" ++ nl ++ codes "start" ++ start_text names found.start ++ nl ++ lines_text points names program 1 found.derivs
-    ++ codes "path" ++ words_text found.path ++ nl ++ codes "value " ++ dec found.value ++ nl
+    codes "broken" ++ nl ++ start_line names found.start ++ lines_text points names program 1 found.derivs ++ path_line found.path
+    ++ value_line found.value
 
 abbrev pub answer_text : FlowPoints → List Name → Program → Refuted → List ℕ
 answer_text points names program Holds = codes "holds" ++ nl

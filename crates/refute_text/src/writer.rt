@@ -3,7 +3,7 @@
 ghost use Rattle.std.specs.Prelude.{◌≡◌, ◌<◌, ◌≤◌, ◌++◌, length, All, IfOk, OnOk};
 ghost use Rattle.number_text.specs.Numerals.{dec};
 ghost use Rattle.report_text.specs.Names.{HasText};
-ghost use Rattle.refute_text.specs.Text.{word_text, words_text, register_text, start_text, slot_text, slots_text, place_text, end_text, deriv_text, line_text, lines_text, broken_text, refuted_text};
+ghost use Rattle.refute_text.specs.Text.{word_text, words_text, register_text, registers_text, start_line, path_line, value_line, slot_text, slots_text, place_text, end_text, deriv_text, line_text, lines_text, broken_text, refuted_text};
 ghost use Rattle.refute_text.specs.Named.{IsNamed, IsSoundIn};
 
 use affine_prog::Program;
@@ -51,23 +51,30 @@ fn push_broken(
     requires named { All (IsNamed program.now) found.now.derivs }
     ensures { OnOk result (text.new.items ≡ text.old.items ++ broken_text points.now names.now program.now found.now) }
 {
-    text.extend_from_slice(b"broken\nstart")?;
+    text.extend_from_slice(b"broken\n")?;
     push_start(text, names, &found.start)?;
-    text.extend_from_slice(b"\n")?;
     push_lines(text, points, names, program, found.derivs.as_slice())?;
-    text.extend_from_slice(b"path")?;
-    push_numbers(text, found.path.as_slice())?;
-    text.extend_from_slice(b"\nvalue ")?;
-    push_dec(text, found.value)?;
+    push_path(text, found.path.as_slice())?;
+    push_value(text, found.value)
+}
+
+fn push_start(text: &mut Vec<u8>, names: &[Name], start: &Row<17>) -> Result<(), AllocError>
+    requires names { All HasText names.now }
+    requires few { length names.now ≤ 16 }
+    ensures { OnOk result (text.new.items ≡ text.old.items ++ start_line names.now start.now) }
+{
+    text.extend_from_slice(b"start")?;
+    push_registers(text, names, start)?;
     text.extend_from_slice(b"\n")
 }
 
 // The registers among the names with their words.
-fn push_start(text: &mut Vec<u8>, names: &[Name], start: &Row<17>) -> Result<(), AllocError>
+fn push_registers(text: &mut Vec<u8>, names: &[Name], start: &Row<17>) -> Result<(), AllocError>
     requires names { All HasText names.now }
     requires few { length names.now ≤ 16 }
-    ensures { OnOk result (text.new.items ≡ text.old.items ++ start_text names.now start.now) }
+    ensures { OnOk result (text.new.items ≡ text.old.items ++ registers_text names.now start.now) }
 {
+    start.known();
     for (i, name) in names.iter().enumerate() {
         push_register(text, *name, start.get(i))?;
     }
@@ -100,10 +107,8 @@ fn push_lines(
     requires named { All (IsNamed program.now) derivs.now }
     ensures { OnOk result (text.new.items ≡ text.old.items ++ lines_text points.now names.now program.now 1 derivs.now) }
 {
-    let mut number = 0u64;
-    for deriv in derivs {
-        number += 1;
-        push_line(text, points, names, program, number, deriv)?;
+    for (i, deriv) in derivs.iter().enumerate() {
+        push_line(text, points, names, program, i as u64 + 1, deriv)?;
     }
     Ok(())
 }
@@ -183,6 +188,7 @@ fn push_slots(
     requires few { length names.now ≤ 16 }
     ensures { OnOk result (text.new.items ≡ text.old.items ++ slots_text procedure names.now slots.now) }
 {
+    slots.known();
     for (i, name) in names.iter().enumerate() {
         push_slot(text, procedure, *name, slots.get(i))?;
     }
@@ -221,6 +227,22 @@ fn push_place(text: &mut Vec<u8>, points: &Points, node: u32) -> Result<(), Allo
     } else {
         text.extend_from_slice(b"exit")
     }
+}
+
+fn push_path(text: &mut Vec<u8>, path: &[u32]) -> Result<(), AllocError>
+    ensures { OnOk result (text.new.items ≡ text.old.items ++ path_line path.now) }
+{
+    text.extend_from_slice(b"path")?;
+    push_numbers(text, path)?;
+    text.extend_from_slice(b"\n")
+}
+
+fn push_value(text: &mut Vec<u8>, value: u64) -> Result<(), AllocError>
+    ensures { OnOk result (text.new.items ≡ text.old.items ++ value_line value) }
+{
+    text.extend_from_slice(b"value ")?;
+    push_dec(text, value)?;
+    text.extend_from_slice(b"\n")
 }
 
 fn push_words(text: &mut Vec<u8>, words: &[u64]) -> Result<(), AllocError>
