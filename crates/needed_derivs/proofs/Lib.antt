@@ -1,0 +1,5 @@
+mod Marking
+mod Closing
+mod Keeping
+mod Moving
+pub mod Ordered

@@ -3,7 +3,7 @@
 --   number_at numbers n            the new number of derivation number n
 --   renumbered numbers deriv       the derivation with the new numbers of those that it names
 --   Puts marked old new deriv number   the derivation stands at the end of the new list, and this is its number, where it is marked;
---                                  else the list is as it was
+--                                  else the list is as it was, and the number is 0
 --   IsKeptAt own numbers j d       the derivation d, which stood at place j, stands under its new number, behind those that it names
 --   AreRenumbered derivs marks own numbers k   of the first k derivations the marked ones are kept so, and no others
 use Rattle.std.specs.Prelude.{◌≡◌, ℕ, ◌+◌, ◌-◌, ◌<◌, ◌≤◌, Bool, true, false, List, All, Some, length, slice_get, slice_index}
@@ -23,7 +23,7 @@ renumbered numbers (Call before e callee) = Call (number_at numbers before) e (n
 
 abbrev pub Puts : Bool → List Deriv → List Deriv → Deriv → ℕ → Type 0
 Puts true old new deriv number = IsAppended old new deriv number
-Puts false old new deriv number = new ≡ old
+Puts false old new deriv number = (new ≡ old) × (number ≡ 0)
 
 pub record IsKeptAt (own : List Deriv) (numbers : List ℕ) (j : ℕ) (d : Deriv) : Type 0 where
   pub place : ℕ

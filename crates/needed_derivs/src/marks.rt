@@ -1,6 +1,6 @@
 //! Marks of the derivations that a path needs.
 
-ghost use Rattle.std.specs.Prelude.{◌≡◌, ◌<◌, All, IfOk, false, length, slice_index_or};
+ghost use Rattle.std.specs.Prelude.{◌≡◌, ◌<◌, All, IfOk, false, length, replicate, slice_index_or};
 ghost use Rattle.needed_derivs.specs.Needed.{IsNumberUpTo, numbers_in, IsOrdered};
 ghost use Rattle.needed_derivs.specs.Marks.{Marks, named_where, AreMarks};
 
@@ -41,6 +41,20 @@ fn mark_at(marks: &mut [bool], place: usize, deriv: &Deriv)
     }
 }
 
+/// Marks the derivations that a path needs, where none is marked.
+fn mark_needed(marks: &mut [bool], derivs: &[Deriv], path: &[u32])
+    requires none { marks.old ≡ replicate (length derivs.now) false }
+    requires ordered { IsOrdered derivs.now path.now }
+    ensures { AreMarks derivs.now path.now marks.new }
+{
+    mark_all(marks, path);
+    let mut place = derivs.len();
+    while place > 0 {
+        place -= 1;
+        mark_at(marks, place, &derivs[place]);
+    }
+}
+
 /// The marks of derivations that a path needs.
 pub(crate) fn marks_of(alloc: Global, derivs: &[Deriv], path: &[u32]) -> Result<Vec<bool>, Memory>
     requires { IsOrdered derivs.now path.now }
@@ -49,11 +63,6 @@ pub(crate) fn marks_of(alloc: Global, derivs: &[Deriv], path: &[u32]) -> Result<
     let Ok(mut marks) = vec![in alloc; false; derivs.len()] else {
         return Err(Memory);
     };
-    mark_all(&mut marks, path);
-    let mut place = derivs.len();
-    while place > 0 {
-        place -= 1;
-        mark_at(&mut marks, place, &derivs[place]);
-    }
+    mark_needed(&mut marks, derivs, path);
     Ok(marks)
 }
