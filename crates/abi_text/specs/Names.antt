@@ -8,9 +8,9 @@
 --   widest symbols width routines
 --                              as wide as the longest label of these routines, this width at least and 32 at most
 --   is_next r q                the saved registers r and q follow one another, as s1 and s2 do
---   close last open            the end of a run of registers, where one is open
---   turned last open r         what the register r adds behind the last one
---   runs last open registers   registers, each behind a blank; of those that follow one another the first and the last, as ` s1-s11`
+--   close last begun            the end of a run of registers, where one is begun
+--   turned last begun r         what the register r adds behind the last one
+--   runs last begun registers   registers, each behind a blank; of those that follow one another the first and the last, as ` s1-s11`
 use Rattle.std.specs.Prelude.{ℕ, ◌+◌, ◌-◌, ◌==◌, nat_lt, nat_le, ◌&&◌, ◌||◌, Bool, true, false, List, [], ◌∷◌, ◌++◌, codes, length, take, if◌then◌else◌}
 use Rattle.elf_image.specs.declared.symbol.Symbol.{Symbol}
 use Rattle.number_text.specs.Numerals.{hex}
@@ -45,8 +45,8 @@ close last true = codes "-" ++ register_text last
 close last false = []
 
 abbrev pub turned : ℕ → Bool → ℕ → List ℕ
-turned last open r = if is_next last r then [] else close last open ++ codes " " ++ register_text r
+turned last begun r = if is_next last r then [] else close last begun ++ codes " " ++ register_text r
 
 abbrev pub runs : ℕ → Bool → List ℕ → List ℕ
-runs last open [] = close last open
-runs last open (r ∷ rest) = turned last open r ++ runs r (is_next last r) rest
+runs last begun [] = close last begun
+runs last begun (r ∷ rest) = turned last begun r ++ runs r (is_next last r) rest

@@ -6,7 +6,9 @@
 --   are_told why count             they are told where there are at most four, or where all are asked for
 --   premise_line why premise assumed
 --                                  a line with the count, none where it is 0
---   premise_lines why assumed      a line for each premise, in the order of `number_of`
+--   each_line why premises assumed
+--                                  the lines of some premises
+--   premise_lines why assumed      those of all, in the order of `number_of`
 use Rattle.std.specs.Prelude.{ℕ, ◌==◌, nat_lt, ◌||◌, Bool, true, false, List, [], ◌∷◌, ◌++◌, codes, if◌then◌else◌}
 use Rattle.number_text.specs.Numerals.{dec, hex}
 use Rattle.abi_premises.specs.declared.premises.Premise.{Premise}
@@ -68,17 +70,13 @@ counted_line why premise count assumed =
 abbrev pub premise_line : Bool → Premise → List Assumption → List ℕ
 premise_line why premise assumed = counted_line why premise (counted (number_of premise) 0 assumed) assumed
 
-abbrev pub memory_lines : Bool → List Assumption → List ℕ
-memory_lines why assumed =
-    premise_line why Stores assumed ++ premise_line why Globals assumed ++ premise_line why Ecalls assumed ++ premise_line why Opaques assumed
+abbrev pub each_line : Bool → List Premise → List Assumption → List ℕ
+each_line why [] assumed = []
+each_line why (premise ∷ rest) assumed = premise_line why premise assumed ++ each_line why rest assumed
 
-abbrev pub jump_lines : Bool → List Assumption → List ℕ
-jump_lines why assumed =
-    premise_line why Foreigns assumed ++ premise_line why Tails assumed ++ premise_line why Tables assumed ++ premise_line why NoReturn assumed
-
-abbrev pub stack_lines : Bool → List Assumption → List ℕ
-stack_lines why assumed =
-    premise_line why Stack assumed ++ premise_line why Above assumed ++ premise_line why Partial assumed ++ premise_line why Exits assumed
+abbrev pub all_premises : List Premise
+all_premises =
+    Stores ∷ Globals ∷ Ecalls ∷ Opaques ∷ Foreigns ∷ Tails ∷ Tables ∷ NoReturn ∷ Stack ∷ Above ∷ Partial ∷ Exits ∷ []
 
 abbrev pub premise_lines : Bool → List Assumption → List ℕ
-premise_lines why assumed = memory_lines why assumed ++ jump_lines why assumed ++ stack_lines why assumed
+premise_lines why assumed = each_line why all_premises assumed

@@ -82,23 +82,23 @@ fn is_next(r: u8, q: u8) -> bool
     r == 8 && q == 9 || r == 9 && q == 18 || 18 <= r && r < 27 && q == r + 1
 }
 
-fn push_close(text: &mut Vec<u8>, last: u8, open: bool) -> Result<(), AllocError>
-    ensures { OnOk result (text.new.items ≡ text.old.items ++ close last open) }
+fn push_close(text: &mut Vec<u8>, last: u8, begun: bool) -> Result<(), AllocError>
+    ensures { OnOk result (text.new.items ≡ text.old.items ++ close last begun) }
 {
-    if !open {
+    if !begun {
         return Ok(());
     }
     text.extend_from_slice(b"-")?;
     push_register(text, last)
 }
 
-fn push_turned(text: &mut Vec<u8>, last: u8, open: bool, r: u8) -> Result<(), AllocError>
-    ensures { OnOk result (text.new.items ≡ text.old.items ++ turned last open r) }
+fn push_turned(text: &mut Vec<u8>, last: u8, begun: bool, r: u8) -> Result<(), AllocError>
+    ensures { OnOk result (text.new.items ≡ text.old.items ++ turned last begun r) }
 {
     if is_next(last, r) {
         return Ok(());
     }
-    push_close(text, last, open)?;
+    push_close(text, last, begun)?;
     text.extend_from_slice(b" ")?;
     push_register(text, r)
 }
@@ -108,11 +108,11 @@ pub(crate) fn push_runs(text: &mut Vec<u8>, registers: &[u8]) -> Result<(), Allo
     ensures { OnOk result (text.new.items ≡ text.old.items ++ runs 0 false registers.now) }
 {
     let mut last = 0;
-    let mut open = false;
+    let mut begun = false;
     for r in registers {
-        push_turned(text, last, open, *r)?;
-        open = is_next(last, *r);
+        push_turned(text, last, begun, *r)?;
+        begun = is_next(last, *r);
         last = *r;
     }
-    push_close(text, last, open)
+    push_close(text, last, begun)
 }

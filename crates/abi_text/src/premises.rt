@@ -1,12 +1,27 @@
 //! Premises.
 
 ghost use Rattle.std.specs.Prelude.{◌≡◌, ◌++◌, OnOk};
-ghost use Rattle.abi_text.specs.Premises.{one_text, many_text, sentence, address_if, addresses, are_told, told_addresses, counted_line, premise_line, memory_lines, jump_lines, stack_lines, premise_lines};
+ghost use Rattle.abi_text.specs.Premises.{one_text, many_text, sentence, address_if, addresses, are_told, told_addresses, counted_line, premise_line, each_line, premise_lines};
 
 use abi_lines::{counted, number_of};
 use abi_premises::{Assumption, Premise};
 use number_text::{push_dec, push_hex};
 use std::alloc::AllocError;
+
+const PREMISES: [Premise; 12] = [
+    Premise::Stores,
+    Premise::Globals,
+    Premise::Ecalls,
+    Premise::Opaques,
+    Premise::Foreigns,
+    Premise::Tails,
+    Premise::Tables,
+    Premise::NoReturn,
+    Premise::Stack,
+    Premise::Above,
+    Premise::Partial,
+    Premise::Exits,
+];
 
 fn one_text(premise: Premise) -> &'static str
     ensures { result.now ≡ one_text premise }
@@ -138,6 +153,20 @@ fn push_premise(
     push_counted(text, why, premise, count, assumed)
 }
 
+fn push_each(
+    text: &mut Vec<u8>,
+    why: bool,
+    premises: &[Premise],
+    assumed: &[Assumption],
+) -> Result<(), AllocError>
+    ensures { OnOk result (text.new.items ≡ text.old.items ++ each_line why premises.now assumed.now) }
+{
+    for premise in premises {
+        push_premise(text, why, *premise, assumed)?;
+    }
+    Ok(())
+}
+
 /// Appends a line for each premise, with its count.
 pub(crate) fn push_premises(
     text: &mut Vec<u8>,
@@ -146,34 +175,5 @@ pub(crate) fn push_premises(
 ) -> Result<(), AllocError>
     ensures { OnOk result (text.new.items ≡ text.old.items ++ premise_lines why assumed.now) }
 {
-    push_memory(text, why, assumed)?;
-    push_jumps(text, why, assumed)?;
-    push_stack(text, why, assumed)
-}
-
-fn push_memory(text: &mut Vec<u8>, why: bool, assumed: &[Assumption]) -> Result<(), AllocError>
-    ensures { OnOk result (text.new.items ≡ text.old.items ++ memory_lines why assumed.now) }
-{
-    push_premise(text, why, Premise::Stores, assumed)?;
-    push_premise(text, why, Premise::Globals, assumed)?;
-    push_premise(text, why, Premise::Ecalls, assumed)?;
-    push_premise(text, why, Premise::Opaques, assumed)
-}
-
-fn push_jumps(text: &mut Vec<u8>, why: bool, assumed: &[Assumption]) -> Result<(), AllocError>
-    ensures { OnOk result (text.new.items ≡ text.old.items ++ jump_lines why assumed.now) }
-{
-    push_premise(text, why, Premise::Foreigns, assumed)?;
-    push_premise(text, why, Premise::Tails, assumed)?;
-    push_premise(text, why, Premise::Tables, assumed)?;
-    push_premise(text, why, Premise::NoReturn, assumed)
-}
-
-fn push_stack(text: &mut Vec<u8>, why: bool, assumed: &[Assumption]) -> Result<(), AllocError>
-    ensures { OnOk result (text.new.items ≡ text.old.items ++ stack_lines why assumed.now) }
-{
-    push_premise(text, why, Premise::Stack, assumed)?;
-    push_premise(text, why, Premise::Above, assumed)?;
-    push_premise(text, why, Premise::Partial, assumed)?;
-    push_premise(text, why, Premise::Exits, assumed)
+    push_each(text, why, &PREMISES, assumed)
 }
