@@ -15,7 +15,9 @@
 --                              one of them
 --   also_names symbols p r fault told routines
 --                              the other procedures that have the fault, where `told` says that one was told already
---   clobbered_text             a fault: where the register was changed last, its value, and the return
+--   fault_text                 where a register was changed last, its value at the return, and the way there
+--   return_text                the return, and the other procedures that have the fault
+--   clobbered_text             both, unless the fault is told elsewhere
 --   why_words image rows p a why
 --                              a cause
 --   same_cause c d             the causes are the same
@@ -111,14 +113,19 @@ also_names symbols p r fault told (routine ∷ rest) =
     also_one symbols (has_too p r fault routine) told routine.procedure
     ++ also_names symbols p r fault (told || has_too p r fault routine) rest
 
+unfoldable pub fault_text : Image → Rows → Bool → Finding → Fault → List ℕ
+fault_text image rows why f fault =
+    where_text image rows f.procedure (f.register ∷ []) fault.changed
+    ++ value_words image rows f.procedure fault.changed fault.value ++ way_text why rows f.procedure f.walk
+
+unfoldable pub return_text : List Symbol → List Routine → Finding → Fault → List ℕ
+return_text symbols routines f fault =
+    nl ++ codes "       returns at " ++ hex fault.address ++ also_names symbols f.procedure f.register fault false routines
+
 abbrev pub clobbered_text : Image → Rows → Bool → List Routine → Finding → Fault → List ℕ
 clobbered_text image rows why routines f fault =
     if is_told_elsewhere routines f.procedure f.register fault then []
-    else where_text image rows f.procedure (f.register ∷ []) fault.changed
-    ++ value_words image rows f.procedure fault.changed fault.value
-    ++ way_text why rows f.procedure f.walk
-    ++ nl ++ codes "       returns at " ++ hex fault.address
-    ++ also_names image.symbols f.procedure f.register fault false routines
+    else fault_text image rows why f fault ++ return_text image.symbols routines f fault
 
 abbrev pub leaves_words : Bool → List ℕ
 leaves_words true = codes "goes to a loaded address: a context is restored"

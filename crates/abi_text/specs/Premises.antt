@@ -78,5 +78,5 @@ abbrev pub all_premises : List Premise
 all_premises =
     Stores ∷ Globals ∷ Ecalls ∷ Opaques ∷ Foreigns ∷ Tails ∷ Tables ∷ NoReturn ∷ Stack ∷ Above ∷ Partial ∷ Exits ∷ []
 
-abbrev pub premise_lines : Bool → List Assumption → List ℕ
+unfoldable pub premise_lines : Bool → List Assumption → List ℕ
 premise_lines why assumed = each_line why all_premises assumed

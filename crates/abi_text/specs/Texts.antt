@@ -37,10 +37,10 @@ use Rattle.abi_text.specs.Standings.{tally_in, is_clobbered, is_unknown, is_neve
 use Rattle.abi_text.specs.Findings.{findings_text, kept_mark}
 use Rattle.abi_text.specs.Premises.{premise_lines}
 
-abbrev pub procedures_text : ℕ → List ℕ
+unfoldable pub procedures_text : ℕ → List ℕ
 procedures_text n = dec n ++ (if n == 1 then codes " procedure, " else codes " procedures, ")
 
-abbrev pub never_text : ℕ → List ℕ
+unfoldable pub never_text : ℕ → List ℕ
 never_text n = dec n ++ (if n == 1 then codes " never returns" else codes " never return")
 
 abbrev pub counts_text : ℕ → Tally → List ℕ

@@ -2,7 +2,7 @@
 
 ghost use Rattle.std.specs.Prelude.{◌≡◌, ◌++◌, false, IfOk, OnOk};
 ghost use Rattle.entry_tables.specs.Settling.{AreLined};
-ghost use Rattle.abi_text.specs.Findings.{where_text, taken_mark, step_text, way_steps, way_text, also_lead, also_end, has_too, also_one, also_names, clobbered_text, is_by_cause, first_with, if_so, registers_with, unknown_text, verdict_text, finding_text, findings_text, is_kept, kept_in, kept_words, kept_mark};
+ghost use Rattle.abi_text.specs.Findings.{where_text, taken_mark, step_text, way_steps, way_text, also_lead, also_end, has_too, also_one, also_names, fault_text, return_text, clobbered_text, is_by_cause, first_with, if_so, registers_with, unknown_text, verdict_text, finding_text, findings_text, is_kept, kept_in, kept_words, kept_mark};
 
 use crate::names::{push_label, push_padded, push_runs};
 use crate::places::{push_instr, turned_at};
@@ -148,6 +148,40 @@ fn push_also(
     text.extend_from_slice(also_end(told).as_bytes())
 }
 
+#[tactic(auto, unfolding(crate::specs::Findings::fault_text))]
+fn push_fault(
+    alloc: Global,
+    text: &mut Vec<u8>,
+    image: &Image,
+    rows: &Rows,
+    why: bool,
+    f: &Finding,
+    fault: Fault,
+) -> Result<(), AllocError>
+    requires { AreLined image.now rows.now.points }
+    ensures { OnOk result (text.new.items ≡ text.old.items ++ fault_text image.now rows.now why f.now fault) }
+{
+    let (p, changed) = (f.procedure, fault.changed);
+    push_where(alloc, text, image, rows, p, &[f.register], changed)?;
+    push_value_words(alloc, text, image, rows, p, changed, fault.value)?;
+    push_way(text, image, rows, why, p, f.walk.as_slice())
+}
+
+#[tactic(auto, unfolding(crate::specs::Findings::return_text))]
+fn push_return(
+    text: &mut Vec<u8>,
+    symbols: &[Symbol],
+    routines: &[Routine],
+    f: &Finding,
+    fault: Fault,
+) -> Result<(), AllocError>
+    ensures { OnOk result (text.new.items ≡ text.old.items ++ return_text symbols.now routines.now f.now fault) }
+{
+    text.extend_from_slice(b"\n       returns at ")?;
+    push_hex(text, fault.address)?;
+    push_also(text, symbols, f.procedure, f.register, fault, routines)
+}
+
 fn push_clobbered(
     alloc: Global,
     text: &mut Vec<u8>,
@@ -161,16 +195,11 @@ fn push_clobbered(
     requires { AreLined image.now rows.now.points }
     ensures { OnOk result (text.new.items ≡ text.old.items ++ clobbered_text image.now rows.now why routines.now f.now fault) }
 {
-    let (p, r, changed) = (f.procedure, f.register, fault.changed);
-    if is_told_elsewhere(routines, p, r, fault) {
+    if is_told_elsewhere(routines, f.procedure, f.register, fault) {
         return Ok(());
     }
-    push_where(alloc, text, image, rows, p, &[r], changed)?;
-    push_value_words(alloc, text, image, rows, p, changed, fault.value)?;
-    push_way(text, image, rows, why, p, f.walk.as_slice())?;
-    text.extend_from_slice(b"\n       returns at ")?;
-    push_hex(text, fault.address)?;
-    push_also(text, image.symbols.as_slice(), p, r, fault, routines)
+    push_fault(alloc, text, image, rows, why, f, fault)?;
+    push_return(text, image.symbols.as_slice(), routines, f, fault)
 }
 
 fn is_by_cause(cause: Cause, verdict: Verdict) -> bool

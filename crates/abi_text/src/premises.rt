@@ -168,6 +168,7 @@ fn push_each(
 }
 
 /// Appends a line for each premise, with its count.
+#[tactic(auto, unfolding(crate::specs::Premises::premise_lines))]
 pub(crate) fn push_premises(
     text: &mut Vec<u8>,
     why: bool,

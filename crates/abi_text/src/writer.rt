@@ -40,6 +40,7 @@ pub fn write_text(
     Ok(text)
 }
 
+#[tactic(auto, unfolding(crate::specs::Texts::procedures_text))]
 fn push_procedures(text: &mut Vec<u8>, n: u64) -> Result<(), AllocError>
     ensures { OnOk result (text.new.items ≡ text.old.items ++ procedures_text n) }
 {
@@ -51,6 +52,7 @@ fn push_procedures(text: &mut Vec<u8>, n: u64) -> Result<(), AllocError>
     }
 }
 
+#[tactic(auto, unfolding(crate::specs::Texts::never_text))]
 fn push_never(text: &mut Vec<u8>, n: u64) -> Result<(), AllocError>
     ensures { OnOk result (text.new.items ≡ text.old.items ++ never_text n) }
 {
