@@ -11,13 +11,15 @@ use Rattle.abi_verdicts.specs.Ends.{ends_in}
 use Rattle.abi_verdicts.specs.Verdicts.{verdict_of}
 use Rattle.abi_routines.specs.declared.finding.Routine.{Routine}
 use Rattle.abi_meanings.specs.Meanings.{KeptIsKept, EndsIn, IsHome}
+use Rattle.abi_answers.specs.declared.forms.Form.{Form}
 use Rattle.abi_answers.specs.Answers.{IsTold}
 use Rattle.abi_answers.specs.Laws.{IsTelling}
 
-pub told_home : KeptIsKept → (image : Image) (rows : Rows) (routines : List Routine) (status : ℕ) (text : List ℕ) → IsTold image rows routines status text
+pub told_home : KeptIsKept → (form : Form) (file : List ℕ) (image : Image) (roots : List ℕ) (rows : Rows) (routines : List Routine) (status : ℕ) (text : List ℕ)
+    → IsTold form file image roots rows routines status text
     → (p r : ℕ) → IsTelling routines p r Kept → (run : ℕ → Hart) (i : ℕ) (f : Frame) → EndsIn (table_of image rows) (code_at image) p run i f
     → IsHome r (run (suc i)) f
-told_home law image rows routines status text is p r telling run i f e =
+told_home law form file image roots rows routines status text is p r telling run i f e =
     let t = table_of image rows in
     let ends = ends_in image rows rows.points in
     let ending = is.found.ending in

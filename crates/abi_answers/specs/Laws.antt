@@ -1,7 +1,7 @@
 -- What an answer tells of runs of the machine.
 --
 --   IsTelling routines p r v     some finding tells this verdict of this register of this procedure
---   AnswersTellOfRuns            where an answer is told of a table, and tells that a register is kept, then in each run from any of
+--   AnswersTellOfRuns            where an answer is told of a table, in whatever form, and tells that a register is kept, then in each run from any of
 --                                the table's procedures, with any registers and any memory, that keeps the table's premises, each
 --                                frame of that procedure which ends goes to the word that ra had at its entry, and the register has
 --                                its word of the entry
@@ -17,6 +17,7 @@ use Rattle.abi_verdicts.specs.declared.verdicts.Verdict.TheVariants.{Kept}
 use Rattle.abi_routines.specs.declared.finding.Finding.{Finding}
 use Rattle.abi_routines.specs.declared.finding.Routine.{Routine}
 use Rattle.abi_meanings.specs.Meanings.{EndsIn, IsHome}
+use Rattle.abi_answers.specs.declared.forms.Form.{Form}
 use Rattle.abi_answers.specs.Answers.{IsTold}
 
 pub record IsTelling (routines : List Routine) (p r : ℕ) (v : Verdict) : Type 0 where
@@ -32,6 +33,7 @@ pub record IsTelling (routines : List Routine) (p r : ℕ) (v : Verdict) : Type 
 
 abbrev pub AnswersTellOfRuns : Type 0
 AnswersTellOfRuns =
-    (image : Image) (rows : Rows) (routines : List Routine) (status : ℕ) (text : List ℕ) → IsTold image rows routines status text
+    (form : Form) (file : List ℕ) (image : Image) (roots : List ℕ) (rows : Rows) (routines : List Routine) (status : ℕ) (text : List ℕ)
+    → IsTold form file image roots rows routines status text
     → (p r : ℕ) → IsTelling routines p r Kept → (run : ℕ → Hart) (i : ℕ) (f : Frame) → EndsIn (table_of image rows) (code_at image) p run i f
     → IsHome r (run (suc i)) f

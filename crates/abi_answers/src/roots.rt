@@ -1,7 +1,7 @@
 //! The procedures that are asked for.
 
 ghost use Rattle.std.specs.Prelude.{◌≡◌, ◌++◌, ◌∷◌, [], IfOk, OnOk};
-ghost use Rattle.abi_answers.specs.Answers.{coded, all_coded, roots_of};
+ghost use Rattle.abi_answers.specs.Answers.{coded, all_coded, roots_of, roots_in};
 
 use elf_image::{Image, Symbol};
 use entry_tables::has_code;
@@ -16,6 +16,24 @@ pub fn roots_of(alloc: Global, image: &Image) -> Result<Items<u64>, AllocError>
     push(&mut roots, image.entry)?;
     add_all_coded(&mut roots, image, image.symbols.as_slice())?;
     Ok(roots)
+}
+
+/// One procedure alone, or these, where none is chosen.
+pub(crate) fn roots_in(
+    alloc: Global,
+    image: &Image,
+    root: Option<u64>,
+) -> Result<Items<u64>, AllocError>
+    ensures { IfOk result (λ roots. roots ≡ roots_in image.now root) }
+{
+    match root {
+        Some(a) => {
+            let mut roots = Items::new(alloc);
+            push(&mut roots, a)?;
+            Ok(roots)
+        }
+        None => roots_of(alloc, image),
+    }
 }
 
 fn add_all_coded(

@@ -16,6 +16,7 @@ mod tally;
 mod words;
 mod writer;
 
-pub use tallies::tally_of;
+pub use tallies::{more, tally_of, with_findings};
 pub use tally::Tally;
-pub use writer::write_lines;
+pub use words::{number_of, push_known, push_number, push_register};
+pub use writer::{counted, push_known_mark, write_lines};

@@ -23,7 +23,8 @@ pub fn tally_of(routines: &[Routine]) -> Tally
     tally
 }
 
-fn with_findings(tally: Tally, found: &[Finding]) -> Tally
+/// The tally with some findings more.
+pub fn with_findings(tally: Tally, found: &[Finding]) -> Tally
     ensures { result ≡ with_findings tally found.now }
 {
     let mut all = tally;
@@ -33,7 +34,8 @@ fn with_findings(tally: Tally, found: &[Finding]) -> Tally
     all
 }
 
-pub(crate) fn more(n: u64) -> u64
+/// One more; 2^64 - 1 stays.
+pub fn more(n: u64) -> u64
     ensures { result ≡ more n }
 {
     if n < u64::MAX { n + 1 } else { n }

@@ -10,7 +10,8 @@ use number_text::{push_dec, push_hex};
 use rv_decode::register_name;
 use std::alloc::AllocError;
 
-pub(crate) fn push_register(text: &mut Vec<u8>, r: u8) -> Result<(), AllocError>
+/// Appends the name of a register.
+pub fn push_register(text: &mut Vec<u8>, r: u8) -> Result<(), AllocError>
     ensures { OnOk result (text.new.items ≡ text.old.items ++ register_text r) }
 {
     if r < 32 {
@@ -21,7 +22,8 @@ pub(crate) fn push_register(text: &mut Vec<u8>, r: u8) -> Result<(), AllocError>
     }
 }
 
-fn push_number(text: &mut Vec<u8>, k: u64) -> Result<(), AllocError>
+/// Appends a signed number, with its sign.
+pub fn push_number(text: &mut Vec<u8>, k: u64) -> Result<(), AllocError>
     ensures { OnOk result (text.new.items ≡ text.old.items ++ number_text k) }
 {
     if k < 1 << 63 {
@@ -33,7 +35,8 @@ fn push_number(text: &mut Vec<u8>, k: u64) -> Result<(), AllocError>
     }
 }
 
-fn push_known(text: &mut Vec<u8>, b: u8, k: u64) -> Result<(), AllocError>
+/// Appends a register's word of the entry and a number, or a word.
+pub fn push_known(text: &mut Vec<u8>, b: u8, k: u64) -> Result<(), AllocError>
     ensures { OnOk result (text.new.items ≡ text.old.items ++ known_text b k) }
 {
     if b == 0 {
@@ -123,7 +126,8 @@ pub(crate) fn premise_text(premise: Premise) -> &'static str
     }
 }
 
-pub(crate) fn number_of(premise: Premise) -> u64
+/// The number of a premise, in the order in which premises are told.
+pub fn number_of(premise: Premise) -> u64
     ensures { result ≡ number_of premise }
 {
     match premise {

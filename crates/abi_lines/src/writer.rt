@@ -55,7 +55,8 @@ fn push_routine(text: &mut Vec<u8>, symbols: &[Symbol], routine: &Routine) -> Re
     push_findings(text, routine.findings.as_slice())
 }
 
-fn push_known_mark(text: &mut Vec<u8>, known: bool) -> Result<(), AllocError>
+/// Appends `?` where sp isn't known everywhere.
+pub fn push_known_mark(text: &mut Vec<u8>, known: bool) -> Result<(), AllocError>
     ensures { OnOk result (text.new.items ≡ text.old.items ++ known_mark known) }
 {
     if known {
@@ -117,7 +118,8 @@ fn push_verdict(text: &mut Vec<u8>, verdict: Verdict) -> Result<(), AllocError>
     }
 }
 
-fn counted(n: u64, assumed: &[Assumption]) -> u64
+/// How many assumptions are of the premise of this number, as far as a word counts.
+pub fn counted(n: u64, assumed: &[Assumption]) -> u64
     ensures { result ≡ counted n 0 assumed.now }
 {
     let mut count = 0;

@@ -2,11 +2,12 @@
 
 ghost use Rattle.std.specs.Prelude.{◌≡◌, ◌++◌, ◌∷◌, [], map, IfOk, OnOk};
 ghost use Rattle.entry_tables.specs.Settling.{AreLined, table_of};
+ghost use Rattle.abi_verdicts.specs.Depths.{levels_of};
 ghost use Rattle.abi_routines.specs.Findings.{IsFinding, AreFindings, place_of, asked, IsRoutine, AreRoutines};
 
 use crate::finding::{Finding, Routine};
 use crate::search::look_for;
-use abi_verdicts::{End, Verdict, Way, depth_of, is_own, verdict_of};
+use abi_verdicts::{End, Level, Verdict, Way, depth_of, is_own, levels, verdict_of};
 use elf_image::Image;
 use entry_tables::Rows;
 use entry_values::Memory;
@@ -28,9 +29,29 @@ pub fn routines(
     ensures told { IfOk result (AreRoutines image.now rows.now ends.now ending.now registers.now) }
     ensures each { IfOk result (λ all. map (λ r. r.procedure) all ≡ map (λ k. k.procedure) rows.now.procedures) }
 {
+    match levels(alloc, rows.points.as_slice()) {
+        Ok(levels) => each(alloc, image, rows, levels.as_slice(), ends, ending, registers),
+        Err(memory) => Err(memory),
+    }
+}
+
+fn each(
+    alloc: Global,
+    image: &Image,
+    rows: &Rows,
+    levels: &[Level],
+    ends: &[End],
+    ending: &[u64],
+    registers: &[u8],
+) -> Result<Items<Routine>, Memory>
+    requires lined { AreLined image.now rows.now.points }
+    requires levels { levels.now ≡ levels_of rows.now.points }
+    ensures told { IfOk result (AreRoutines image.now rows.now ends.now ending.now registers.now) }
+    ensures each { IfOk result (λ all. map (λ r. r.procedure) all ≡ map (λ k. k.procedure) rows.now.procedures) }
+{
     let mut all = Items::new(alloc);
     for told in rows.procedures.as_slice() {
-        let one = routine(alloc, image, rows, ends, ending, told.procedure, registers)?;
+        let one = routine(alloc, image, rows, levels, ends, ending, told.procedure, registers)?;
         push_routine(&mut all, one)?;
     }
     Ok(all)
@@ -49,19 +70,21 @@ fn routine(
     alloc: Global,
     image: &Image,
     rows: &Rows,
+    levels: &[Level],
     ends: &[End],
     ending: &[u64],
     p: u64,
     registers: &[u8],
 ) -> Result<Routine, Memory>
-    requires { AreLined image.now rows.now.points }
+    requires lined { AreLined image.now rows.now.points }
+    requires levels { levels.now ≡ levels_of rows.now.points }
     ensures told { IfOk result (IsRoutine image.now rows.now ends.now ending.now registers.now) }
     ensures procedure { IfOk result (λ one. one.procedure ≡ p) }
 {
     let findings = own_findings(alloc, image, rows, ends, ending, p, registers)?;
     Ok(Routine {
         procedure: p,
-        depth: depth_of(p, rows.points.as_slice()),
+        depth: depth_of(p, levels),
         findings,
     })
 }

@@ -1,12 +1,13 @@
 //! The search of a walk that shows a fault.
 
-ghost use Rattle.entry_tables.specs.Settling.{AreLined};
+ghost use Rattle.std.specs.Prelude.{◌<◌, length};
+ghost use Rattle.entry_tables.specs.Settling.{AreLined, IsLined};
 
 use abi_verdicts::{is_away, is_lost, is_own, shows};
 use elf_image::Image;
-use entry_tables::Rows;
+use entry_tables::{Point, Rows, find, flow_at};
 use entry_values::{Flow, Memory, Slot, State, Value, start, value_at};
-use entry_walks::{flow_here, onto, value_in};
+use entry_walks::{onto, value_in};
 use indexmap::IndexSet;
 use sqlite_items::Items;
 use std::alloc::Global;
@@ -99,10 +100,40 @@ fn follow(
     Ok(false)
 }
 
+// The flow at a place; none goes on where the table has no point there.
 fn flow_of(alloc: Global, image: &Image, rows: &Rows, p: u64, place: &Place) -> Result<Flow, Memory>
     requires { AreLined image.now rows.now.points }
 {
-    flow_here(alloc, image, rows, p, place.address, &place.state)
+    match find(rows.points.as_slice(), p, place.address) {
+        Some(i) if i < rows.points.len() => flow_by_number(alloc, image, rows, i, &place.state),
+        _ => Ok(Flow::Halt),
+    }
+}
+
+fn flow_by_number(
+    alloc: Global,
+    image: &Image,
+    rows: &Rows,
+    i: usize,
+    s: &State,
+) -> Result<Flow, Memory>
+    requires within { i < length rows.now.points }
+    requires lined { AreLined image.now rows.now.points }
+{
+    flow_on(alloc, image, rows, &rows.points.as_slice()[i], s)
+}
+
+fn flow_on(
+    alloc: Global,
+    image: &Image,
+    rows: &Rows,
+    point: &Point,
+    s: &State,
+) -> Result<Flow, Memory>
+    requires { IsLined image.now point.now }
+{
+    let guesses = rows.guesses.as_slice();
+    flow_at(alloc, image, guesses, point.address, point.line, point.marked, s)
 }
 
 // The place at b behind another one, if no such place was found before.

@@ -25,8 +25,8 @@ mod ways;
 
 pub use causes::verdict_of;
 pub use collect::ends;
-pub use depth::Depth;
-pub use depths::depth_of;
+pub use depth::{Depth, Level};
+pub use depths::{depth_of, levels};
 pub use faults::Fault;
 pub use found::{is_away, is_lost, is_own, shows};
 pub use live::ending;

@@ -2,7 +2,7 @@ use Rattle.std.proofs.Common.{◌≡◌, ◌++◌, drop, map}
 use Rattle.entry_tables.specs.declared.rows.Told.{Told}
 use Rattle.abi_routines.specs.declared.finding.Routine.{Routine}
 use Rattle.abi_routines.specs.Findings.{AreRoutines}
-use Rattle.abi_routines.proofs.findings.routines.Given as goal
+use Rattle.abi_routines.proofs.findings.each.Given as goal
 
 abbrev pub invariant-loop-told : goal.invariant-loop-told
 invariant-loop-told l =

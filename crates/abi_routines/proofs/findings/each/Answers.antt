@@ -1,7 +1,7 @@
 use Rattle.std.proofs.Common.{sym, subst}
 use Rattle.abi_routines.specs.Findings.{AreRoutines}
 use Rattle.abi_routines.proofs.Listing.{routines_more, told_more}
-use Rattle.abi_routines.proofs.findings.routines.Goals as goal
+use Rattle.abi_routines.proofs.findings.each.Goals as goal
 
 pub loop-told-preserved : goal.loop-told-preserved
 loop-told-preserved c = (
