@@ -19,6 +19,8 @@ mod laws;
 #[cfg(test)]
 mod maps;
 #[cfg(test)]
+mod merged;
+#[cfg(test)]
 mod narrow;
 #[cfg(test)]
 mod programs;

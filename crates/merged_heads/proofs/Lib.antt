@@ -1,0 +1,19 @@
+mod Lists
+mod Classes
+mod Edges
+mod Procs
+mod Along
+mod Following
+mod HeadNumbers
+mod Forward
+mod Sources
+mod Back
+mod Staying
+mod Formed
+mod HeadsTell
+mod Pushed
+mod Imaged
+mod MergedModules
+mod Told
+mod PassedOn
+pub mod Lemmas
