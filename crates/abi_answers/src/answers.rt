@@ -202,7 +202,17 @@ fn told(
     ensures { IfOk result (λ answer. IsAnswerTo form file.now (word_of entry.entry) bytes.now answer.0 answer.1.items) }
 {
     match found(alloc, image, rows) {
-        Ok(all) => told_by(alloc, bytes, file, form, entry, image, root, rows, all.as_slice()),
+        Ok(all) => told_by(
+            alloc,
+            bytes,
+            file,
+            form,
+            entry,
+            image,
+            root,
+            rows,
+            all.as_slice(),
+        ),
         Err(_) => Err(AllocError),
     }
 }

@@ -14,13 +14,7 @@ pub(crate) fn entry_of(image: &Image, word: &str) -> Option<u64>
     ensures { MatchOption result (HasNoEntry image.now word.now) (IsEntry image.now word.now) }
 {
     match place_of(word, image.symbols.as_slice()) {
-        Some(a) => {
-            if has_code(image, a) {
-                Some(a)
-            } else {
-                None
-            }
-        }
+        Some(a) => { if has_code(image, a) { Some(a) } else { None } }
         None => None,
     }
 }

@@ -30,7 +30,15 @@ pub fn routines(
     ensures each { IfOk result (λ all. map (λ r. r.procedure) all ≡ map (λ k. k.procedure) rows.now.procedures) }
 {
     match levels(alloc, rows.points.as_slice()) {
-        Ok(levels) => each(alloc, image, rows, levels.as_slice(), ends, ending, registers),
+        Ok(levels) => each(
+            alloc,
+            image,
+            rows,
+            levels.as_slice(),
+            ends,
+            ending,
+            registers,
+        ),
         Err(memory) => Err(memory),
     }
 }
@@ -51,7 +59,16 @@ fn each(
 {
     let mut all = Items::new(alloc);
     for told in rows.procedures.as_slice() {
-        let one = routine(alloc, image, rows, levels, ends, ending, told.procedure, registers)?;
+        let one = routine(
+            alloc,
+            image,
+            rows,
+            levels,
+            ends,
+            ending,
+            told.procedure,
+            registers,
+        )?;
         push_routine(&mut all, one)?;
     }
     Ok(all)

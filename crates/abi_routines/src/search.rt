@@ -133,7 +133,15 @@ fn flow_on(
     requires { IsLined image.now point.now }
 {
     let guesses = rows.guesses.as_slice();
-    flow_at(alloc, image, guesses, point.address, point.line, point.marked, s)
+    flow_at(
+        alloc,
+        image,
+        guesses,
+        point.address,
+        point.line,
+        point.marked,
+        s,
+    )
 }
 
 // The place at b behind another one, if no such place was found before.

@@ -277,14 +277,7 @@ fn push_finding(
 {
     match f.verdict {
         Verdict::Clobbered(fault) => push_clobbered(
-            alloc,
-            text,
-            image,
-            rows,
-            why,
-            routines,
-            f,
-            fault,
+            alloc, text, image, rows, why, routines, f, fault,
         ),
         Verdict::Unknown(cause) => push_unknown(alloc, text, image, rows, found, f, cause),
         _ => Ok(()),

@@ -7,7 +7,9 @@ ghost use Rattle.abi_text.specs.Texts.{named_text, head_text, block_text, named_
 use crate::findings::{push_findings, push_kept_mark};
 use crate::names::{label_of, push_label, push_padded};
 use crate::parts::Part;
-use crate::standings::{is_clobbered, is_kept, is_never, is_shown, is_unknown, only_callee, tally_in};
+use crate::standings::{
+    is_clobbered, is_kept, is_never, is_shown, is_unknown, only_callee, tally_in,
+};
 use abi_lines::push_known_mark;
 use abi_routines::{Finding, Routine};
 use elf_image::{Image, Symbol};
@@ -167,14 +169,7 @@ fn push_part(
     let symbols = image.symbols.as_slice();
     match part {
         Part::Faults | Part::Open => push_block(
-            alloc,
-            text,
-            image,
-            rows,
-            why,
-            routines,
-            width,
-            routine,
+            alloc, text, image, rows, why, routines, width, routine,
         ),
         Part::ByCallee => push_callee_line(alloc, text, image, rows, routine),
         Part::Whole => {
@@ -203,11 +198,20 @@ fn push_told(
     requires lined { AreLined image.now rows.now.points }
     ensures { OnOk result (text.new.items ≡ text.old.items ++ told_in_part image.now rows.now why routines.now width part routine.now) }
 {
-    let is = is_in(alloc, image, rows, routines, part, routine.findings.as_slice())?;
+    let is = is_in(
+        alloc,
+        image,
+        rows,
+        routines,
+        part,
+        routine.findings.as_slice(),
+    )?;
     if !is {
         return Ok(());
     }
-    push_part(alloc, text, image, rows, why, routines, width, part, routine)
+    push_part(
+        alloc, text, image, rows, why, routines, width, part, routine,
+    )
 }
 
 /// Appends what is told of routines in a part of the text.
@@ -226,7 +230,9 @@ pub(crate) fn push_all_in(
     ensures { OnOk result (text.new.items ≡ text.old.items ++ all_in image.now rows.now why routines.now width part routines.now) }
 {
     for routine in routines {
-        push_told(alloc, text, image, rows, why, routines, width, part, routine)?;
+        push_told(
+            alloc, text, image, rows, why, routines, width, part, routine,
+        )?;
     }
     Ok(())
 }

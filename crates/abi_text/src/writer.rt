@@ -78,11 +78,7 @@ fn push_counts(text: &mut Vec<u8>, n: u64, tally: Tally) -> Result<(), AllocErro
     text.extend_from_slice(b"\n")
 }
 
-fn push_first_line(
-    text: &mut Vec<u8>,
-    file: &[u8],
-    routines: &[Routine],
-) -> Result<(), AllocError>
+fn push_first_line(text: &mut Vec<u8>, file: &[u8], routines: &[Routine]) -> Result<(), AllocError>
     ensures { OnOk result (text.new.items ≡ text.old.items ++ first_line file.now routines.now) }
 {
     text.extend_from_slice(file)?;
@@ -134,16 +130,67 @@ fn push_routines(
     requires lined { AreLined image.now rows.now.points }
     ensures { OnOk result (text.new.items ≡ text.old.items ++ routines_text image.now rows.now why routines.now width) }
 {
-    push_section(alloc, text, image, rows, why, routines, width, Part::Faults, b"CLOBBERED")?;
-    push_section(alloc, text, image, rows, why, routines, width, Part::Open, b"unknown")?;
-    push_all_in(alloc, text, image, rows, why, routines, width, Part::ByCallee)?;
-    push_section(alloc, text, image, rows, why, routines, width, Part::Whole, b"kept")?;
-    push_section(alloc, text, image, rows, why, routines, width, Part::Endless, b"never returns")
+    push_section(
+        alloc,
+        text,
+        image,
+        rows,
+        why,
+        routines,
+        width,
+        Part::Faults,
+        b"CLOBBERED",
+    )?;
+    push_section(
+        alloc,
+        text,
+        image,
+        rows,
+        why,
+        routines,
+        width,
+        Part::Open,
+        b"unknown",
+    )?;
+    push_all_in(
+        alloc,
+        text,
+        image,
+        rows,
+        why,
+        routines,
+        width,
+        Part::ByCallee,
+    )?;
+    push_section(
+        alloc,
+        text,
+        image,
+        rows,
+        why,
+        routines,
+        width,
+        Part::Whole,
+        b"kept",
+    )?;
+    push_section(
+        alloc,
+        text,
+        image,
+        rows,
+        why,
+        routines,
+        width,
+        Part::Endless,
+        b"never returns",
+    )
 }
 
 fn push_assumed(text: &mut Vec<u8>, why: bool, assumed: &[Assumption]) -> Result<(), AllocError>
     ensures { OnOk result (text.new.items ≡ text.old.items ++ assumed_text why assumed.now) }
 {
-    text.extend_from_slice(b"\nassumed of runs\n  code isn't written over\n  the stack doesn't wrap\n")?;
+    text.extend_from_slice(
+        b"\nassumed of runs\n  code isn't written over\n  the stack doesn't wrap\n",
+    )?;
     push_premises(text, why, assumed)
 }
