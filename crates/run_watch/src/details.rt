@@ -47,8 +47,8 @@ pub(crate) fn relation_detail(ctx: &WatchCtx) -> Option<u64>
     Some(broken as u64)
 }
 
-/// The number of the first row that values break.
-pub(crate) fn first_broken(rows: &[Row<17>], values: &Row<17>) -> Option<usize>
+// The number of the first row that values break.
+fn first_broken(rows: &[Row<17>], values: &Row<17>) -> Option<usize>
     ensures { result ≡ position (λ row. not (dot row values.now == 0)) rows.now }
 {
     rows.iter().position(|row| row.dot(values) != 0)

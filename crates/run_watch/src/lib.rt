@@ -22,6 +22,7 @@ mod marks;
 mod moment;
 mod outcomes;
 mod places;
+mod products;
 mod quiet;
 mod runs;
 mod shows;

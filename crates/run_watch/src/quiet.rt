@@ -13,19 +13,18 @@ ghost use Rattle.run_watch.specs.Quiet.{IsCalm, IsQuietStep, Quietly, IsStraight
 
 use crate::code_bytes::CodeBytes;
 use crate::context::LiveSlots;
-use crate::details::first_broken;
 use crate::live_slots::Allowed;
 use crate::marks::SlotMarks;
 use crate::moment::{is_unreached, rows_in, told_near};
+use crate::products::first_unkept;
 use crate::stacks::Stack;
-use crate::values::values;
+use crate::values::seen_words;
 use affine_lift::slot_writes;
 use flow_points::{CodePoint, Flow, Points};
 use frame_offsets::Offsets;
 use report_text::{PointRows, Report};
 use rv_decode::Instr;
 use rv_step::{Machine, Memory, plus};
-use word_rows::Row;
 
 /// Goes on as long as nothing stops the run, no step is a call or a return, and it can be told before a step that none of the
 /// kinds 1 to 4 finds anything in its record.
@@ -150,7 +149,7 @@ fn is_calm(
     ensures { IsTrue result → IsCalm (scene_of points.now offsets.now report.now code.now) (record { machine = machine.now; stack = stack.now }) at code_point.now instr }
 {
     let names = report.tracked.names.as_slice();
-    let values = values(machine, machine.registers(), names, &stack.last);
+    let words = seen_words(machine, machine.registers(), names, &stack.last);
     let slots = LiveSlots {
         names,
         earlier: stack.earlier.as_slice(),
@@ -163,15 +162,15 @@ fn is_calm(
     };
     are_kept(
         told_near(report.points.as_slice(), at, code_point.point),
-        &values,
+        &words,
     ) && are_spared(&slots, allowed, code, stored_to(machine, instr))
 }
 
-// The point isn't called unreached, and values break none of its rows.
-fn are_kept(told: Option<&PointRows>, values: &Row<17>) -> bool
-    ensures { IsTrue result → told_detail (option_map (λ t. t.state) (option_copied told.entry)) values.now ≡ None }
+// The point isn't called unreached, and words break none of its rows.
+fn are_kept(told: Option<&PointRows>, words: &[u64; 17]) -> bool
+    ensures { IsTrue result → told_detail (option_map (λ t. t.state) (option_copied told.entry)) words.now ≡ None }
 {
-    !is_unreached(told) && first_broken(rows_in(told), values).is_none()
+    !is_unreached(told) && first_unkept(rows_in(told), words).is_none()
 }
 
 // The address to which an instruction stores, if it does.
