@@ -1,3 +1,4 @@
 mod WordTexts
 mod Rising
 mod Heads
+pub mod OneLine

@@ -17,6 +17,8 @@ mod numbers;
 #[cfg(test)]
 mod numerals;
 #[cfg(test)]
+mod proof_files;
+#[cfg(test)]
 mod readings;
 #[cfg(test)]
 mod refused;

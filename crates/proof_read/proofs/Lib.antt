@@ -1,0 +1,5 @@
+mod Pushing
+mod Folding
+mod Told
+mod Back
+mod Again
