@@ -1,36 +1,14 @@
 -- Derivations that are kept, one after the other.
-use Rattle.std.proofs.Common.{◌≡◌, inl, inr, ℕ, ◌+◌, ◌-◌, ◌<◌, ◌≤◌, Bool, true, false, List, [], ◌∷◌, ◌++◌, All, Some, length, length-append, get_or, slice_get, refl, ap, ap₂, sym, subst, ◌∙◌, arith}
+use Rattle.std.proofs.Common.{◌≡◌, inl, inr, ℕ, ◌+◌, ◌-◌, ◌<◌, ◌≤◌, Bool, true, false, List, [], ◌∷◌, ◌++◌, All, Some, length, length-append, get_or, slice_get, refl, ap, sym, subst, ◌∙◌, arith}
 use Rattle.std.proofs.lemmas.Bool.{true≢false, cases_eq}
-use Rattle.std.proofs.lemmas.List.{get_or_append_left}
 use Rattle.std.proofs.lemmas.List.Elements.{All-push}
 use Rattle.std.proofs.lemmas.Option.{same_Some}
 use Rattle.refute_path.specs.declared.derivations.Deriv.{Deriv}
-use Rattle.refute_path.specs.declared.derivations.Deriv.TheVariants.{Opening, Step, Call}
 use Rattle.refute_path.proofs.Placing.{got_kept, got_at_end}
 use Rattle.needed_derivs.specs.Needed.{IsNumberUpTo, numbers_in, AreEarlier}
 use Rattle.needed_derivs.specs.Marks.{IsMarked}
-use Rattle.needed_derivs.specs.Renumbered.{number_at, renumbered, Puts, IsKeptAt, AreRenumbered}
-
-number_kept : (xs ys : List ℕ) (n : ℕ) → IsNumberUpTo (length xs) n → number_at (xs ++ ys) n ≡ number_at xs n
-number_kept xs ys n (least, most) = get_or_append_left xs ys 0 (n - 1) (omega (arith, least, most))
-
-renumbered_kept : (xs ys : List ℕ) (d : Deriv) → All (IsNumberUpTo (length xs)) (numbers_in d) → renumbered (xs ++ ys) d ≡ renumbered xs d
-renumbered_kept xs ys (Opening p slots) all = refl
-renumbered_kept xs ys (Step b e choice) all = ap (λ n. Step n e choice) (number_kept xs ys b (all 0 0 (omega arith)))
-renumbered_kept xs ys (Call b e c) all =
-    ap₂ (λ n m. Call n e m) (number_kept xs ys b (all 0 0 (omega arith))) (number_kept xs ys c (all 1 0 (omega arith)))
-
-pub up_to : (j k : ℕ) (xs : List ℕ) → j ≤ k → All (IsNumberUpTo j) xs → All (IsNumberUpTo k) xs
-up_to j k xs less all = λ i d below. (let (least, most) = all i d below in (least, omega (arith, less, most)))
-
-kept_still : (own more : List Deriv) (numbers further : List ℕ) (j : ℕ) (d : Deriv) → All (IsNumberUpTo (length numbers)) (numbers_in d) → IsKeptAt own numbers j d
-    → IsKeptAt (own ++ more) (numbers ++ further) j d
-kept_still own more numbers further j d all is = record {
-  place = is.place;
-  number = got_kept numbers further j (is.place + 1) is.number;
-  there = subst (λ x. slice_get (own ++ more) is.place ≡ Some x) (sym (renumbered_kept numbers further d all)) (got_kept own more is.place (renumbered numbers d) is.there);
-  earlier = λ i x below. subst (λ n. n ≤ is.place) (sym (number_kept numbers further (get_or (numbers_in d) i x) (all i x below))) (is.earlier i x below);
-}
+use Rattle.needed_derivs.specs.Renumbered.{renumbered, Puts, IsKeptAt, AreRenumbered}
+use Rattle.needed_derivs.proofs.Growing.{number_kept, renumbered_kept, up_to, kept_still}
 
 append_nothing : (xs : List Deriv) → xs ++ [] ≡ xs
 append_nothing [] = refl

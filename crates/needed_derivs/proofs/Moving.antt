@@ -4,28 +4,18 @@ use Rattle.std.proofs.lemmas.List.{map-append}
 use Rattle.std.proofs.lemmas.List.Elements.{Contains-append_left, Contains-append_right}
 use Rattle.std.proofs.lemmas.Option.{slice_get_within}
 use Rattle.affine_prog.specs.declared.Program.{Program}
-use Rattle.refute_path.specs.declared.derivations.Break.{Break}
 use Rattle.refute_path.specs.declared.derivations.Deriv.{Deriv}
 use Rattle.refute_path.specs.declared.derivations.Deriv.TheVariants.{Opening, Step, Call}
-use Rattle.refute_path.specs.Derivations.{Spells, opening, step, call, IsSound, Unfolds, last, next, IsBreak}
-use Rattle.refute_path.proofs.Numbered.{got_index}
+use Rattle.refute_path.specs.Derivations.{Spells, opening, step, call, IsSound, Unfolds, last, next}
 use Rattle.needed_derivs.specs.Needed.{IsNumberUpTo, numbers_in, IsNeeded, on_path, named}
 use Rattle.needed_derivs.specs.Marks.{IsMarked, HasMark, AreMarks}
 use Rattle.needed_derivs.specs.Renumbered.{number_at, renumbered, IsKeptAt, AreRenumbered}
+use Rattle.needed_derivs.proofs.Growing.{numbers_renumbered, new_number}
 
 pub contains_map : (f : ℕ → ℕ) (xs : List ℕ) (n : ℕ) → Contains xs n → Contains (map f xs) (f n)
 contains_map f [] n (k, below, e) = absurd (omega arith)
 contains_map f (x ∷ xs) n (zero, below, e) = (0, omega arith, ap f e)
 contains_map f (x ∷ xs) n (suc k, below, e) = let (j, within, is) = contains_map f xs n (k, omega arith, e) in (suc j, omega arith, is)
-
-numbers_renumbered : (numbers : List ℕ) (d : Deriv) → numbers_in (renumbered numbers d) ≡ map (number_at numbers) (numbers_in d)
-numbers_renumbered numbers (Opening p slots) = refl
-numbers_renumbered numbers (Step b e choice) = refl
-numbers_renumbered numbers (Call b e c) = refl
-
-new_number : (numbers : List ℕ) (n k place : ℕ) → n ≡ k + 1 → slice_get numbers k ≡ Some (place + 1) → number_at numbers n ≡ place + 1
-new_number numbers n k place e is =
-    let same : n - 1 ≡ k = omega arith in got_index numbers (n - 1) (place + 1) (subst (λ i. slice_get numbers i ≡ Some (place + 1)) (sym same) is)
 
 module _ (derivs own : List Deriv) (path numbers : List ℕ) (marks : List Bool) (m : AreMarks derivs path marks) (r : AreRenumbered derivs marks own numbers (length derivs)) where
   new : ℕ → ℕ
@@ -102,36 +92,3 @@ module _ (derivs own : List Deriv) (path numbers : List ℕ) (marks : List Bool)
       let (j, is, number) = r.only (n - 1) (omega (arith, least, most)) in
       let same : n - 1 + 1 ≡ n = omega (arith, least) in
       subst (IsNeeded own (map (number_at numbers) path)) (new_number numbers (j + 1) j (n - 1) refl number ∙ same) (needed_still (j + 1) (m.only j is))
-
--- the short one has what is marked of the found one, under new numbers
-pub record IsShort (found : Break) (own : List Deriv) (own_path numbers : List ℕ) (marks : List Bool) : Type 0 where
-  pub marks_are : AreMarks found.derivs found.path marks
-  pub kept : AreRenumbered found.derivs marks own numbers (length found.derivs)
-  pub path_is : own_path ≡ map (number_at numbers) found.path
-
-pub is_short : (found : Break) (own derivs : List Deriv) (own_path path told numbers : List ℕ) (told_marks marks : List Bool) → derivs ≡ found.derivs → path ≡ found.path
-    → told ≡ numbers → told_marks ≡ marks → AreMarks derivs path marks → AreRenumbered derivs told_marks own numbers (length derivs) → own_path ≡ map (number_at told) path
-    → IsShort found own own_path numbers marks
-is_short found own derivs own_path path told numbers told_marks marks same_derivs same_path same_numbers same_marks m r is = record {
-  marks_are = subst (λ p. AreMarks found.derivs p marks) same_path (subst (λ l. AreMarks l path marks) same_derivs m);
-  kept = subst (λ l. AreRenumbered found.derivs l own numbers (length found.derivs)) same_marks
-      (subst (λ l. AreRenumbered l told_marks own numbers (length l)) same_derivs r);
-  path_is = is ∙ ap (map (number_at told)) same_path ∙ ap (λ n. map (number_at n) found.path) same_numbers;
-}
-
-module _ (found : Break) (own : List Deriv) (own_path numbers : List ℕ) (marks : List Bool) (s : IsShort found own own_path numbers marks) where
-  pub break_still : (program : Program) (u : ℕ) (a : List ℕ) → IsBreak program u a found
-      → IsBreak program u a (record { start = found.start; derivs = own; path = own_path; value = found.value })
-  break_still program u a b = record {
-    sound = sound_still found.derivs own found.path numbers marks s.marks_are s.kept program b.sound;
-    is_start = b.is_start;
-    state = b.state;
-    unfolds = subst (λ l. Unfolds program own found.start l u b.state) (sym s.path_is)
-        (unfolded found.derivs own found.path numbers marks s.marks_are s.kept program found.start found.path u b.state b.unfolds s.marks_are.path_marked);
-    value_is = b.value_is;
-    not_zero = b.not_zero;
-  }
-
-  pub short_needed : (n : ℕ) → IsNumberUpTo (length own) n → IsNeeded own own_path n
-  short_needed n within =
-      subst (λ l. IsNeeded own l n) (sym s.path_is) (all_needed found.derivs own found.path numbers marks s.marks_are s.kept n within)

@@ -3,7 +3,7 @@ use Rattle.refute_path.proofs.Traced.{found_item}
 use Rattle.needed_derivs.specs.Needed.{numbers_in}
 use Rattle.needed_derivs.specs.Marks.{Marks}
 use Rattle.needed_derivs.proofs.Closing.{MarkedFrom, marked_begin, marked_down, marked_end}
-use Rattle.needed_derivs.proofs.Keeping.{up_to}
+use Rattle.needed_derivs.proofs.Growing.{up_to}
 use Rattle.needed_derivs.proofs.marks.mark_needed.Goals as goal
 
 pub loop-place-init : goal.loop-place-init

@@ -1,4 +1,4 @@
-use Rattle.needed_derivs.proofs.Moving.{is_short, break_still, short_needed}
+use Rattle.needed_derivs.proofs.Short.{is_short, break_still, short_needed}
 use Rattle.needed_derivs.proofs.renumber.break_needed.Goals as goal
 
 pub returns-clause-still : goal.returns-clause-still
