@@ -91,7 +91,7 @@ ONE = "affine-gen 1\nn 1\nbytes 164\npoints 11\nprocs 2\nrows 1\nunreached 0\nen
 
 USAGE = (
     "usage:\nanalyse FILE --track LIST\ncert FILE --track LIST\nlist FILE\nrun FILE REPORT --steps N [--regs R]\n"
-    "gen N --track LIST\nupgrade FILE REPORT\nnarrow FILE --track LIST\n"
+    "gen N --track LIST\nupgrade FILE REPORT\nnarrow FILE --track LIST\nrefute FILE --track LIST --at POINT --row ROW\n"
 )
 
 # Each order over FRAME: its words, the text that REPORT is, or None, and its whole answer, with status 0.

@@ -19,7 +19,7 @@ const RET: u32 = 0x00008067;
 // addi sp,sp,-16
 const DOWN: u32 = 0xff010113;
 
-const USAGE: &str = "usage:\nabi-check FILE\n";
+const USAGE: &str = "usage:\nabi-check FILE [--entry NAME|ADDRESS] [--lines | --why]\n";
 
 const CALLS: &[Call] = &[
     Call {
@@ -29,25 +29,43 @@ const CALLS: &[Call] = &[
         text: USAGE,
     },
     Call {
+        words: "--lines --why f",
+        code: &[RET],
+        status: 2,
+        text: USAGE,
+    },
+    Call {
+        words: "--entry=0x10079 f",
+        code: &[RET],
+        status: 1,
+        text: "refused NoEntry 0x10079\n",
+    },
+    Call {
+        words: "f --entry 0x1007c --lines",
+        code: &[DOWN, RET],
+        status: 0,
+        text: "affine-check 1\nproc 0x1007c 0\nsp kept\nra kept\ns0 kept\ns1 kept\ns2 kept\ns3 kept\ns4 kept\ns5 kept\ns6 kept\ns7 kept\ns8 kept\ns9 kept\ns10 kept\ns11 kept\nend 14 0 0 0\n",
+    },
+    Call {
         words: "absent",
         code: &[RET],
         status: 3,
         text: "read fault\n",
     },
     Call {
-        words: "f",
+        words: "f --lines",
         code: &[RET],
         status: 0,
         text: "affine-check 1\nproc 0x10078 0\nsp kept\nra kept\ns0 kept\ns1 kept\ns2 kept\ns3 kept\ns4 kept\ns5 kept\ns6 kept\ns7 kept\ns8 kept\ns9 kept\ns10 kept\ns11 kept\nend 14 0 0 0\n",
     },
     Call {
-        words: "f",
+        words: "f --lines",
         code: &[DOWN, RET],
         status: 7,
         text: "affine-check 1\nproc 0x10078 16\nsp clobbered 0x10078 return 0x1007c is sp-16\nra kept\ns0 kept\ns1 kept\ns2 kept\ns3 kept\ns4 kept\ns5 kept\ns6 kept\ns7 kept\ns8 kept\ns9 kept\ns10 kept\ns11 kept\nend 13 1 0 0\n",
     },
     Call {
-        words: "f",
+        words: "f --lines",
         code: &[0x0000007f],
         status: 8,
         text: "affine-check 1\nproc 0x10078 0\nsp unknown 0x10078 no-instruction\nra unknown 0x10078 no-instruction\ns0 unknown 0x10078 no-instruction\ns1 unknown 0x10078 no-instruction\ns2 unknown 0x10078 no-instruction\ns3 unknown 0x10078 no-instruction\ns4 unknown 0x10078 no-instruction\ns5 unknown 0x10078 no-instruction\ns6 unknown 0x10078 no-instruction\ns7 unknown 0x10078 no-instruction\ns8 unknown 0x10078 no-instruction\ns9 unknown 0x10078 no-instruction\ns10 unknown 0x10078 no-instruction\ns11 unknown 0x10078 no-instruction\nassumes partial 1\nend 0 0 14 0\n",
