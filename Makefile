@@ -13,6 +13,10 @@ STEPS = 1000
 REGS =
 export REPORT STEPS REGS
 
+AT =
+ROW =
+export AT ROW
+
 # The programs that are installed: each name, and the crate that it is.
 INSTALLED = \
 	affine-relations=analyser_main \
@@ -20,7 +24,7 @@ INSTALLED = \
 PREFIX = /usr/local
 DESTDIR =
 
-.PHONY: help demo analyse cert list run upgrade narrow check build install test large hostile faults readme bench edits
+.PHONY: help demo analyse cert list run upgrade narrow refute check build install test large hostile faults readme bench edits
 
 help:
 	@echo 'make demo                       what the program tells of $(EXAMPLE)'
@@ -30,6 +34,7 @@ help:
 	@echo 'make run FILE=F REPORT=R STEPS=N REGS=..  a run of F against the report R, with these registers'
 	@echo 'make upgrade FILE=F REPORT=R    the report R with certificates'
 	@echo 'make narrow FILE=F TRACK=LIST   relations of the low 32 bits of the names of LIST'
+	@echo 'make refute FILE=F TRACK=LIST AT=P,A ROW=..  whether a row holds at the address A in the procedure at P'
 	@echo 'make check FILE=F               whether the routines of F keep sp, ra and s0 to s11, with no list of names'
 	@echo
 	@echo 'These run the programs that make build made, at once, where no source is newer; else each compiles the'
@@ -69,6 +74,9 @@ upgrade:
 
 narrow:
 	@tools/order narrow --track "$$TRACK"
+
+refute:
+	@tools/order refute --track "$$TRACK" --at "$$AT" --row "$$ROW"
 
 check:
 	@tools/order check

@@ -4,3 +4,4 @@ mod RowsTold
 mod OutOfRange
 mod OffsetsFound
 mod NarrowTold
+mod RefuteTold

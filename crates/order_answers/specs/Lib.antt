@@ -6,3 +6,4 @@ pub mod UpgradeRefusals
 pub mod ReportAnswers
 pub mod Answers
 pub mod NarrowAnswers
+pub mod RefuteAnswers

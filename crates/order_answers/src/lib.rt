@@ -20,6 +20,7 @@ mod gen_text;
 mod list_order;
 mod narrow_order;
 mod points_list;
+mod refute_order;
 mod run_order;
 mod upgrade_order;
 
@@ -29,5 +30,6 @@ pub use file_code::{code_of, refused};
 pub use gen_order::answer_to_gen;
 pub use list_order::answer_to_list;
 pub use narrow_order::answer_to_narrow;
+pub use refute_order::answer_to_refute;
 pub use run_order::answer_to_run;
 pub use upgrade_order::answer_to_upgrade;

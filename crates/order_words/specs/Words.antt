@@ -1,7 +1,7 @@
 -- Which orders words are, for all texts in them.
 --
 --   valued name text       `--name=text`
---   TakesTexts file list report
+--   TakesTexts file list report at row
 --                          orders with these texts, where options have their values behind `=` and positions stand behind `--`
 --   TextsAreTaken          so they are for all texts
 --   TakesNumber text n file list report regs
@@ -16,20 +16,22 @@
 --   AreUsage               so they are for all texts; nor are no words, and words of `list` that ask for help or a version or begin
 --                          with `-`
 use Rattle.std.specs.Prelude.{◌≡◌, ◌≢◌, ℕ, List, [], ◌∷◌, ◌++◌, codes, Some, None}
-use Rattle.orders.specs.Orders.{Usage, Analyse, Certify, ListCode, CheckRun, Generate, Upgrade, Narrow, count_of, order_of}
+use Rattle.orders.specs.Orders.{Usage, Analyse, Certify, ListCode, CheckRun, Generate, Upgrade, Narrow, Refute, count_of, order_of}
 
 abbrev pub valued : List ℕ → List ℕ → List ℕ
 valued name text = codes "--" ++ name ++ codes "=" ++ text
 
-pub record TakesTexts (file list report : List ℕ) : Type 0 where
+pub record TakesTexts (file list report at row : List ℕ) : Type 0 where
   pub analyse : order_of (codes "analyse" ∷ valued (codes "track") list ∷ codes "--" ∷ file ∷ []) ≡ Analyse file list
   pub cert : order_of (codes "cert" ∷ valued (codes "track") list ∷ codes "--" ∷ file ∷ []) ≡ Certify file list
   pub code : order_of (codes "list" ∷ codes "--" ∷ file ∷ []) ≡ ListCode file
   pub upgrade : order_of (codes "upgrade" ∷ codes "--" ∷ file ∷ report ∷ []) ≡ Upgrade file report
   pub narrow : order_of (codes "narrow" ∷ valued (codes "track") list ∷ codes "--" ∷ file ∷ []) ≡ Narrow file list
+  pub refute : order_of (codes "refute" ∷ valued (codes "track") list ∷ valued (codes "at") at ∷ valued (codes "row") row ∷ codes "--" ∷ file ∷ [])
+      ≡ Refute file list at row
 
 abbrev pub TextsAreTaken : Type 0
-TextsAreTaken = (file list report : List ℕ) → TakesTexts file list report
+TextsAreTaken = (file list report at row : List ℕ) → TakesTexts file list report at row
 
 pub record TakesNumber (text : List ℕ) (n : ℕ) (file list report regs : List ℕ) : Type 0 where
   pub generate : order_of (codes "gen" ∷ valued (codes "track") list ∷ codes "--" ∷ text ∷ []) ≡ Generate n list

@@ -6,7 +6,7 @@ use Rattle.std.specs.Str.Parse.{digits_value}
 use Rattle.std.proofs.lemmas.Bool.{leb-true}
 use Rattle.clap.specs.Words.{App}
 use Rattle.clap.proofs.WalkLemmas.{both}
-use Rattle.orders.specs.Orders.{Order, Usage, Analyse, Certify, ListCode, Upgrade, Narrow, HasFewSteps, count_of, file_command, generate_of, given_in, is_count, is_taken, most_count, order_of, report_command, run_command, run_of, track_command, value_in, when_taken}
+use Rattle.orders.specs.Orders.{Order, Usage, Analyse, Certify, ListCode, Upgrade, Narrow, Refute, HasFewSteps, count_of, file_command, generate_of, given_in, is_count, is_taken, most_count, order_of, refute_command, report_command, run_command, run_of, track_command, value_in, when_taken}
 
 few_if : (b : Bool) (x y : Order) → HasFewSteps x → HasFewSteps y → HasFewSteps (if b then x else y)
 few_if true x y few few_too = few
@@ -48,4 +48,7 @@ few_steps (command ∷ words) =
     (given_in runs words (codes "regs"))))
     (few_if (bytes_eq command (codes "upgrade")) _ _
     (few_taken (report_command command) words (λ value. Upgrade (value (codes "file")) (value (codes "report"))) tt)
-    (few_if (bytes_eq command (codes "narrow")) _ _ (few_taken over words (λ value. Narrow (value (codes "file")) (value (codes "track"))) tt) tt))))))
+    (few_if (bytes_eq command (codes "narrow")) _ _ (few_taken over words (λ value. Narrow (value (codes "file")) (value (codes "track"))) tt)
+    (few_if (bytes_eq command (codes "refute")) _ _
+    (few_taken (refute_command command) words (λ value. Refute (value (codes "file")) (value (codes "track")) (value (codes "at")) (value (codes "row"))) tt)
+    tt)))))))

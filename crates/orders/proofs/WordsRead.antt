@@ -10,8 +10,9 @@ use Rattle.clap.specs.declared.error.kind.ErrorKind.{ErrorKind}
 use Rattle.clap.specs.declared.error.kind.ErrorKind.TheVariants.{OutOfMemory}
 use Rattle.clap.specs.declared.parser.matches.ArgMatches.{ArgMatches}
 use Rattle.clap.proofs.WalkLemmas.{both}
-use Rattle.orders.specs.Orders.{Usage, file_command, given_in, has_none, is_taken, order_of, report_command, run_command, track_command}
+use Rattle.orders.specs.Orders.{Usage, file_command, given_in, has_none, is_taken, order_of, refute_command, report_command, run_command, track_command}
 use Rattle.orders.specs.OrdersRead.{HasValues, given_read}
+use Rattle.orders.specs.Checks.{check_command}
 
 some_fault : (faults : Kinds) (k : ErrorKind) → IsAmong k faults → has_none faults ≡ false
 some_fault [] k among = absurd among
@@ -49,6 +50,14 @@ pub run_command_simple : (name : List ℕ) → is_simple_and_free (run_command n
 unfolding run_command report_command
 run_command_simple name = refl
 
+pub refute_command_simple : (name : List ℕ) → is_simple_and_free (refute_command name) ≡ true
+unfolding refute_command track_command
+refute_command_simple name = refl
+
+pub check_command_simple : (name : List ℕ) → is_simple_and_free (check_command name) ≡ true
+unfolding check_command file_command
+check_command_simple name = refl
+
 differs : (xs ys : List ℕ) → (xs ≡ ys → ⊥) → bytes_eq xs ys ≡ false
 differs xs ys other = go (bytes_eq xs ys) (bytes_eq-Decides xs ys)
   where
@@ -58,8 +67,8 @@ differs xs ys other = go (bytes_eq xs ys) (bytes_eq-Decides xs ys)
 
 pub no_order : (command : List ℕ) (words : List (List ℕ)) → (command ≡ codes "analyse" → ⊥) → (command ≡ codes "cert" → ⊥) →
     (command ≡ codes "list" → ⊥) → (command ≡ codes "gen" → ⊥) → (command ≡ codes "run" → ⊥) → (command ≡ codes "upgrade" → ⊥) →
-    (command ≡ codes "narrow" → ⊥) → Usage ≡ order_of (command ∷ words)
-no_order command words a c l g r u n =
+    (command ≡ codes "narrow" → ⊥) → (command ≡ codes "refute" → ⊥) → Usage ≡ order_of (command ∷ words)
+no_order command words a c l g r u n f =
     rw (
       differs command (codes "analyse") a,
       differs command (codes "cert") c,
@@ -68,4 +77,5 @@ no_order command words a c l g r u n =
       differs command (codes "run") r,
       differs command (codes "upgrade") u,
       differs command (codes "narrow") n,
+      differs command (codes "refute") f,
     ) refl

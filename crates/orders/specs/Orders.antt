@@ -12,6 +12,7 @@
 --   Generate n list        `gen N --track LIST`
 --   Upgrade file report    `upgrade FILE REPORT`
 --   Narrow file list       `narrow FILE --track LIST`
+--   Refute file list at row   `refute FILE --track LIST --at POINT --row ROW`, where at is POINT
 --   texts_of words         the bytes of each word
 --   position name          the rule of a required position of this name
 --   option name            the rule of a required option `--name`, which takes one value and may stand once
@@ -22,6 +23,7 @@
 --   track_command name over  the command with --track and this position
 --   report_command name    the command with FILE and REPORT
 --   run_command name       the same with --steps and --regs, of which --regs may be left out
+--   refute_command name    the command with FILE, --track, --at and --row
 --   has_none faults        there are no faults
 --   is_taken app words     the command takes the words
 --   given_in app words name  the value that an argument has in words that are taken, if it has one
@@ -55,6 +57,7 @@ pub data Order : Type 0 where
   Generate : (n : ℕ) (list : List ℕ) → Order
   Upgrade : (file report : List ℕ) → Order
   Narrow : (file list : List ℕ) → Order
+  Refute : (file list at row : List ℕ) → Order
 
 abbrev pub texts_of : List (String Global) → List (List ℕ)
 texts_of words = map (λ w. string_bytes w) words
@@ -83,6 +86,9 @@ report_command name = with_rule (with_rule (bare_command name) (position (codes 
 
 unfoldable pub run_command : List ℕ → App
 run_command name = with_rule (with_rule (report_command name) (option (codes "steps"))) (optional (codes "regs"))
+
+unfoldable pub refute_command : List ℕ → App
+refute_command name = with_rule (with_rule (track_command name (codes "file")) (option (codes "at"))) (option (codes "row"))
 
 abbrev pub has_none : Kinds → Bool
 has_none [] = true
@@ -140,6 +146,8 @@ order_of (command ∷ words) =
     then when_taken (report_command command) words (λ value. Upgrade (value (codes "file")) (value (codes "report")))
     else if bytes_eq command (codes "narrow")
     then when_taken (track_command command (codes "file")) words (λ value. Narrow (value (codes "file")) (value (codes "track")))
+    else if bytes_eq command (codes "refute")
+    then when_taken (refute_command command) words (λ value. Refute (value (codes "file")) (value (codes "track")) (value (codes "at")) (value (codes "row")))
     else Usage
 
 abbrev pub HasFewSteps : Order → Type 0

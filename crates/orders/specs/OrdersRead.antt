@@ -11,7 +11,7 @@ use Rattle.clap.specs.declared.parser.matches.ArgMatches.{ArgMatches}
 use Rattle.orders.specs.Orders as spec
 use Rattle.orders.specs.Orders.{is_taken, given_in}
 use Rattle.orders.specs.declared.Order.{Order}
-use Rattle.orders.specs.declared.Order.TheVariants.{Usage, Analyse, Certify, ListCode, CheckRun, Generate, Upgrade, Narrow}
+use Rattle.orders.specs.declared.Order.TheVariants.{Usage, Analyse, Certify, ListCode, CheckRun, Generate, Upgrade, Narrow, Refute}
 
 abbrev pub order_in : Order → spec.Order
 order_in Usage = spec.Usage
@@ -22,6 +22,7 @@ order_in (CheckRun file report steps regs) = spec.CheckRun file.now report.now s
 order_in (Generate n list) = spec.Generate n list.now
 order_in (Upgrade file report) = spec.Upgrade file.now report.now
 order_in (Narrow file list) = spec.Narrow file.now list.now
+order_in (Refute file list at row) = spec.Refute file.now list.now at.now row.now
 
 unfoldable pub given_read : ArgMatches → List ℕ → Option (List ℕ)
 given_read parse name = first_of name (rows_of (found_of parse))

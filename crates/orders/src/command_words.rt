@@ -2,8 +2,9 @@
 
 ghost use Rattle.std.specs.Prelude.{◌≡◌, ◌↔◌, true, false, option_map, IfOk, IsTrue};
 ghost use Rattle.clap.specs.Words.{app_of, is_simple_and_free, kind_of, rule_of};
-ghost use Rattle.orders.specs.Orders.{bare_command, file_command, track_command, report_command, run_command, position, option, optional, texts_of};
+ghost use Rattle.orders.specs.Orders.{bare_command, file_command, track_command, report_command, run_command, refute_command, position, option, optional, texts_of};
 ghost use Rattle.orders.specs.OrdersRead.{IsParseOf, given_read, value_read};
+ghost use Rattle.orders.specs.Checks.{check_command, flag};
 
 use clap::error::ErrorKind;
 use clap::{Arg, ArgAction, ArgMatches, Command, Error};
@@ -59,6 +60,30 @@ pub fn parse_run<'a>(
     parse(command, words)
 }
 
+/// What the command of this name with FILE, `--track`, `--at` and `--row` reads in the words, where it takes them.
+pub fn parse_refute<'a>(
+    alloc: Global,
+    name: &'a str,
+    words: &'a [String],
+) -> Result<Option<ArgMatches<'a>>, AllocError>
+    ensures { IfOk result (IsParseOf (refute_command name.entry.now) (texts_of words.entry.now)) }
+{
+    let command = refute_command(alloc, name)?;
+    parse(command, words)
+}
+
+/// What the command of a check reads in the words, where it takes them.
+pub fn parse_check<'a>(
+    alloc: Global,
+    name: &'a str,
+    words: &'a [String],
+) -> Result<Option<ArgMatches<'a>>, AllocError>
+    ensures { IfOk result (IsParseOf (check_command name.entry.now) (texts_of words.entry.now)) }
+{
+    let command = check_command(alloc, name)?;
+    parse(command, words)
+}
+
 fn file_command<'a>(alloc: Global, name: &'a str) -> Result<Command<'a>, AllocError>
     ensures app { IfOk result (λ command. app_of command ≡ file_command name.entry.now) }
     ensures simple { IfOk result (λ command. is_simple_and_free (app_of command) ≡ true) }
@@ -88,6 +113,23 @@ fn run_command<'a>(alloc: Global, name: &'a str) -> Result<Command<'a>, AllocErr
 {
     let command = report_command(alloc, name)?.arg(option(alloc, "steps"))?;
     command.arg(optional(alloc, "regs"))
+}
+
+fn refute_command<'a>(alloc: Global, name: &'a str) -> Result<Command<'a>, AllocError>
+    ensures app { IfOk result (λ command. app_of command ≡ refute_command name.entry.now) }
+    ensures simple { IfOk result (λ command. is_simple_and_free (app_of command) ≡ true) }
+{
+    let command = track_command(alloc, name, "file")?.arg(option(alloc, "at"))?;
+    command.arg(option(alloc, "row"))
+}
+
+fn check_command<'a>(alloc: Global, name: &'a str) -> Result<Command<'a>, AllocError>
+    ensures app { IfOk result (λ command. app_of command ≡ check_command name.entry.now) }
+    ensures simple { IfOk result (λ command. is_simple_and_free (app_of command) ≡ true) }
+{
+    let command = file_command(alloc, name)?.arg(optional(alloc, "entry"))?;
+    let command = command.arg(flag(alloc, "lines"))?;
+    command.arg(flag(alloc, "why"))
 }
 
 fn bare_command<'a>(alloc: Global, name: &'a str) -> Command<'a>
@@ -121,6 +163,13 @@ fn optional<'a>(alloc: Global, name: &'a str) -> Arg<'a>
     ensures local { result.global ≡ false }
 {
     Arg::new(alloc, name).action(ArgAction::Set).long(name)
+}
+
+fn flag<'a>(alloc: Global, name: &'a str) -> Arg<'a>
+    ensures rule { rule_of result ≡ flag name.entry.now }
+    ensures local { result.global ≡ false }
+{
+    Arg::new(alloc, name).action(ArgAction::SetTrue).long(name)
 }
 
 // What the command reads in the words, where it takes them.

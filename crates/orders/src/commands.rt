@@ -6,7 +6,7 @@ ghost use Rattle.orders.specs.OrdersRead.{order_in};
 
 use crate::Order;
 use crate::command_words::{
-    given_value, parse_file, parse_report, parse_run, parse_track, value_of,
+    given_value, parse_file, parse_refute, parse_report, parse_run, parse_track, value_of,
 };
 use numeral_read::{begins_with, number_of};
 use std::alloc::{AllocError, Global};
@@ -42,6 +42,7 @@ fn order_named<'a>(
         "run" => run_order(alloc, words),
         "upgrade" => upgrade_order(alloc, words),
         "narrow" => narrow_order(alloc, words),
+        "refute" => refute_order(alloc, words),
         _ => Ok(Order::Usage),
     }
 }
@@ -132,6 +133,20 @@ fn narrow_order<'a>(alloc: Global, words: &'a [String]) -> Result<Order<'a>, All
         Some(matches) => Order::Narrow {
             file: value_of(&matches, "file"),
             list: value_of(&matches, "track"),
+        },
+        None => Order::Usage,
+    })
+}
+
+fn refute_order<'a>(alloc: Global, words: &'a [String]) -> Result<Order<'a>, AllocError>
+    ensures { IfOk result (λ order. order_in order ≡ order_of (codes "refute" ∷ texts_of words.now)) }
+{
+    Ok(match parse_refute(alloc, "refute", words)? {
+        Some(matches) => Order::Refute {
+            file: value_of(&matches, "file"),
+            list: value_of(&matches, "track"),
+            at: value_of(&matches, "at"),
+            row: value_of(&matches, "row"),
         },
         None => Order::Usage,
     })

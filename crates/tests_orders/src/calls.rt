@@ -11,7 +11,7 @@ use top_call::run;
 pub(crate) const EBREAK: u32 = 0x00100073;
 
 pub(crate) const USAGE: &str =
-    "usage:\nanalyse FILE --track LIST\ncert FILE --track LIST\nlist FILE\nrun FILE REPORT --steps N [--regs R]\ngen N --track LIST\nupgrade FILE REPORT\nnarrow FILE --track LIST\n";
+    "usage:\nanalyse FILE --track LIST\ncert FILE --track LIST\nlist FILE\nrun FILE REPORT --steps N [--regs R]\ngen N --track LIST\nupgrade FILE REPORT\nnarrow FILE --track LIST\nrefute FILE --track LIST --at POINT --row ROW\n";
 
 /// auipc ra,0x0; jalr ra,12(ra); ebreak; jalr zero,0(ra)
 pub(crate) const CALL: [u32; 4] = [0x00000097, 0x00c080e7, EBREAK, 0x00008067];

@@ -17,6 +17,8 @@ mod narrow_tests;
 #[cfg(test)]
 mod order_tests;
 #[cfg(test)]
+mod refute_tests;
+#[cfg(test)]
 mod report_tests;
 #[cfg(test)]
 mod symbol_tests;

@@ -317,14 +317,14 @@ fn no_words_at_all(rt: HostRuntime) -> Result<(), Fail> {
     };
     assert_eq!(rt; run(alloc, &[], &mut none, &mut sink), 2);
     assert_eq!(rt; run(alloc, &[], &mut none, &mut sink), 2);
-    assert_eq!(rt; sink.taken, 334);
+    assert_eq!(rt; sink.taken, 426);
     Ok(())
 }
 
 // What can't be had of the arguments: no memory for them, or no text. Then the status, and how many bytes are put.
 const UNHAD: [(ErrorKind, u8, u64); 2] = [
     (ErrorKind::OutOfMemory, 5, 14),
-    (ErrorKind::InvalidData, 2, 167),
+    (ErrorKind::InvalidData, 2, 213),
 ];
 
 #[test]

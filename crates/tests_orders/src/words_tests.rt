@@ -63,8 +63,8 @@ const ORDERS: [(&str, &str); 54] = [
     ("gen||--track|a0", "usage"),
 ];
 
-// The same of words that name a report.
-const REPORT_ORDERS: [(&str, &str); 24] = [
+// The same of words that name a report, or a point and a row.
+const REPORT_ORDERS: [(&str, &str); 34] = [
     ("run|f|r|--steps|7", "run f r 7"),
     ("run|f|r|--steps|7|--regs|a0=1", "run f r 7 a0=1"),
     ("run|--regs=a0=1|f|--steps=0|r", "run f r 0 a0=1"),
@@ -87,6 +87,19 @@ const REPORT_ORDERS: [(&str, &str); 24] = [
     ("upgrade|f|--|-r", "upgrade f -r"),
     ("narrow|f|--track|a0", "narrow f a0"),
     ("narrow|f", "usage"),
+    (
+        "refute|f|--track|a0|--at|p|--row|1*a0 -5",
+        "refute f a0 p 1*a0 -5",
+    ),
+    ("refute|--row=-1|--at=|--track=a0|--|-f", "refute -f a0  -1"),
+    ("refute|f|--at|p|--row|r|--track|", "refute f  p r"),
+    ("refute|f|--track|a0|--at|p|--row|-1*a0", "usage"),
+    ("refute|f|--track|a0|--at|p", "usage"),
+    ("refute|f|--track|a0|--row|r", "usage"),
+    ("refute|f|--at|p|--row|r", "usage"),
+    ("refute|--track|a0|--at|p|--row|r", "usage"),
+    ("refute|f|--track|a0|--at|p|--at|p|--row|r", "usage"),
+    ("refute|f|r|--track|a0|--at|p|--row|r", "usage"),
     ("upgrade|f", "usage"),
     ("upgrade|f|r|--track|a0", "usage"),
 ];
@@ -127,6 +140,12 @@ fn push_order(text: &mut Vec<u8>, order: Order) -> Result<(), AllocError> {
         }
         Order::Upgrade { file, report } => push_words(text, &["upgrade", file, report]),
         Order::Narrow { file, list } => push_words(text, &["narrow", file, list]),
+        Order::Refute {
+            file,
+            list,
+            at,
+            row,
+        } => push_words(text, &["refute", file, list, at, row]),
     }
 }
 

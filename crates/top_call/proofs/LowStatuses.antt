@@ -13,6 +13,9 @@ use Rattle.order_answers.specs.Answers.{IsAnswer, refused, no_list, crowded, ana
 use Rattle.order_answers.specs.FileRefusals.{IsRefused, too_long, no_image, bad_flow}
 use Rattle.order_answers.specs.NarrowAnswers as narrow
 use Rattle.order_answers.specs.NarrowAnswers.{AnswersNarrow}
+use Rattle.order_answers.specs.RefuteAnswers as refute
+use Rattle.order_answers.specs.RefuteAnswers.{AnswersRefute}
+use Rattle.flow_points.specs.declared.code_points.Point.{Point}
 use Rattle.order_answers.specs.ReportAnswers.{IsUnread, refused_file, too_long_report, IsRun, unread, read, no_report, not_upgraded, upgraded, IsUpgrade}
 use Rattle.order_answers.specs.GenText.{gen_text}
 use Rattle.top_call.specs.Answers.{IsUsage}
@@ -33,6 +36,14 @@ narrow_low list bytes status text (narrow.refused status' text' is) = let low = 
 narrow_low list bytes status text (narrow.no_list status' text' image points refusal short of has why other is line) = omega arith
 narrow_low list bytes status text (narrow.crowded status' text' short many is line) = omega arith
 narrow_low list bytes status text (narrow.analysed status' text' report short what is line) = omega arith
+
+pub refute_low : (list : List ℕ) (at : Point) (row bytes : List ℕ) → IsLow (AnswersRefute list at row bytes)
+refute_low list at row bytes status text (refute.refused status' text' is) = let low = refused_status bytes status text is in omega arith
+refute_low list at row bytes status text (refute.no_list status' text' image points refusal short of has why other is line) = omega arith
+refute_low list at row bytes status text (refute.crowded status' text' short many is line) = omega arith
+refute_low list at row bytes status text (refute.no_point status' text' short over is line) = omega arith
+refute_low list at row bytes status text (refute.bad_row status' text' refusal short over is line) = omega arith
+refute_low list at row bytes status text (refute.told status' text' short what is) = omega arith
 
 pub gen_low : (n : ℕ) (list : List ℕ) → IsLow (IsGenAnswer n list)
 gen_low n list status text (out_of_range status' text' out is line) = omega arith

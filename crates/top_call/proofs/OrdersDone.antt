@@ -7,7 +7,7 @@ use Rattle.analyser_core.specs.declared.cert_line.CertLine.{CertLine}
 use Rattle.analyser_core.specs.declared.refusal.Refusal.{Refusal}
 use Rattle.analyser_core.specs.declared.refusal.Refusal.TheVariants.{Elf, Flow, Track, Heads}
 use Rattle.report_text.specs.declared.reports.Report.{Report}
-use Rattle.orders.specs.Orders.{Order, Usage, Analyse, Certify, ListCode, CheckRun, Generate, Upgrade, Narrow}
+use Rattle.orders.specs.Orders.{Order, Usage, Analyse, Certify, ListCode, CheckRun, Generate, Upgrade, Narrow, Refute}
 use Rattle.start_registers.specs.Settings.{IsStart}
 use Rattle.call_ends.specs.Calls.{Call, IsAnswerOver}
 use Rattle.call_ends.proofs.Laws.{ends_weaker}
@@ -16,11 +16,16 @@ use Rattle.order_answers.specs.FileRefusals.{IsListRefusal, too_long, no_image, 
 use Rattle.order_answers.specs.CertsText.{certs_text}
 use Rattle.order_answers.specs.NarrowAnswers as narrow
 use Rattle.order_answers.specs.NarrowAnswers.{AnswersNarrow}
+use Rattle.order_answers.specs.RefuteAnswers as refute
+use Rattle.order_answers.specs.RefuteAnswers.{AnswersRefute}
 use Rattle.narrow_words.specs.Accepted.{IsNarrowRefusal}
+use Rattle.refute_answers.specs.declared.refusal.RefuteRefusal.TheVariants.{File, NoSuchPoint, Row}
+use Rattle.flow_points.specs.declared.code_points.Point.{Point}
+use Rattle.row_read.specs.Points.{IsPointReading}
 use Rattle.order_answers.specs.GenText.{gen_text}
 use Rattle.order_answers.specs.ReportAnswers.{IsRun, IsUpgrade}
-use Rattle.top_call.specs.Answers.{no_registers, run, no_start, IsCarriedOut}
-use Rattle.top_call.specs.Completeness.{IsUnrefused, HasContents, IsReportFor, IsOld, IsUnhindered, Checked, Done, IsDone}
+use Rattle.top_call.specs.Answers.{no_registers, run, no_start, not_asked, asked, wanting, IsAskedAt, IsCarriedOut}
+use Rattle.top_call.specs.Completeness.{IsUnrefused, IsAskable, HasContents, IsReportFor, IsOld, IsUnhindered, Checked, Done, IsDone}
 use Rattle.top_call.proofs.MadeUnrefused.{made_unrefused}
 use Rattle.top_call.proofs.ReportsDone.{both_done, run_done, upgrade_done}
 
@@ -50,6 +55,23 @@ narrow_done list bytes status text free (narrow.crowded status' text' short many
     let memory = free.only_memory (Heads most_heads) (refl, many) in absurd (cc)
 narrow_done list bytes status text free (narrow.analysed status' text' report short what is line) = is
 
+refute_done : (list : List ℕ) (at : Point) (row bytes : List ℕ) (status : ℕ) (text : List ℕ) → IsAskable bytes list at row →
+    AnswersRefute list at row bytes status text → status ≡ 0
+refute_done list at row bytes status text free (refute.refused status' text' (too_long s t longer is line)) = let short = free.short in omega arith
+refute_done list at row bytes status text free (refute.refused status' text' (no_image s t refusal short why is line)) =
+    let memory = free.only_memory (File (Elf refusal)) why in absurd (cc)
+refute_done list at row bytes status text free (refute.refused status' text' (bad_flow s t image refusal short of why is line)) =
+    let memory = free.only_memory (File (Flow refusal)) (image, of, why) in absurd (cc)
+refute_done list at row bytes status text free (refute.no_list status' text' image points refusal short of has why other is line) =
+    let memory = free.only_memory (File (Track refusal)) (image, points, of, has, why, other) in absurd (cc)
+refute_done list at row bytes status text free (refute.crowded status' text' short many is line) =
+    let memory = free.only_memory (File (Heads most_heads)) (refl, many) in absurd (cc)
+refute_done list at row bytes status text free (refute.no_point status' text' short over is line) =
+    let memory = free.only_memory (NoSuchPoint at.address) (refl, over) in absurd (cc)
+refute_done list at row bytes status text free (refute.bad_row status' text' refusal short over is line) =
+    let memory = free.only_memory (Row refusal) over in absurd (cc)
+refute_done list at row bytes status text free (refute.told status' text' short what is) = is
+
 listing_done : (bytes : List ℕ) (status : ℕ) (text : List ℕ) → IsUnrefused (IsListRefusal bytes) bytes → IsListing bytes status text → status ≡ 0
 listing_done bytes status text free (refused status' text' (too_long s t longer is line)) = let short = free.short in omega arith
 listing_done bytes status text free (refused status' text' (no_image s t refusal short why is line)) =
@@ -68,27 +90,30 @@ gen_done n list c status text (within, free) (out_of_range status' text' out is 
 gen_done n list c status text (within, free) (generated status' text' bytes made is) =
     answer_done (gen_text n bytes) list bytes status text (made_unrefused n list bytes made (free bytes made)) is
 
-over_done : (contents : Option (List ℕ)) (IsCause : List ℕ → Refusal → Type 0) (answer : List ℕ → ℕ → List ℕ → Type 0) →
-    ((bytes : List ℕ) (status : ℕ) (text : List ℕ) → IsUnrefused (IsCause bytes) bytes → answer bytes status text → status ≡ 0) →
-    HasContents contents (λ bytes. IsUnrefused (IsCause bytes) bytes) →
+over_done : (contents : Option (List ℕ)) (IsFree : List ℕ → Type 0) (answer : List ℕ → ℕ → List ℕ → Type 0) →
+    ((bytes : List ℕ) (status : ℕ) (text : List ℕ) → IsFree bytes → answer bytes status text → status ≡ 0) → HasContents contents IsFree →
     (status : ℕ) (text : List ℕ) → IsAnswerOver contents answer status text → IsAnswerOver contents (λ bytes. Done (answer bytes)) status text
-over_done (Some bytes) IsCause answer zero free status text is = (is, zero bytes status text free is)
-over_done None IsCause answer zero free status text is = absurd free
+over_done (Some bytes) IsFree answer zero free status text is = (is, zero bytes status text free is)
+over_done None IsFree answer zero free status text is = absurd free
 
 one_start : (regs : Option (List ℕ)) (start : List ℕ) → IsStart regs (Some start) → IsStart regs None → ⊥
 one_start None start is none = cc none
 one_start (Some text) start is none = none is.list
 
+one_point : (at row : List ℕ) (point : Point) → IsAskedAt at row (Some point) → IsAskedAt at row None → ⊥
+one_point at row point is (inl none) = none point.proc_entry point.address is.0.0 is.0.1 is.0.2
+one_point at row point is (inr none) = none is.1
+
 pub order_done : (order : Order) (c : Call) (answer : ℕ) → IsUnhindered order c → IsCarriedOut order c answer → IsDone order c answer
 order_done Usage c answer free is = absurd free
 order_done (Analyse file list) c answer free is =
-    ends_weaker _ _ _ c answer (over_done (c.contents file) (λ bytes. IsRefusal bytes list) (IsAnswer report_text list) (answer_done report_text list) free) is
+    ends_weaker _ _ _ c answer (over_done (c.contents file) (λ bytes. IsUnrefused (IsRefusal bytes list) bytes) (IsAnswer report_text list) (answer_done report_text list) free) is
 order_done (Certify file list) c answer free is =
-    ends_weaker _ _ _ c answer (over_done (c.contents file) (λ bytes. IsRefusal bytes list) (IsAnswer certs_text list) (answer_done certs_text list) free) is
+    ends_weaker _ _ _ c answer (over_done (c.contents file) (λ bytes. IsUnrefused (IsRefusal bytes list) bytes) (IsAnswer certs_text list) (answer_done certs_text list) free) is
 order_done (Narrow file list) c answer free is =
-    ends_weaker _ _ _ c answer (over_done (c.contents file) (λ bytes. IsNarrowRefusal bytes list) (AnswersNarrow list) (narrow_done list) free) is
+    ends_weaker _ _ _ c answer (over_done (c.contents file) (λ bytes. IsUnrefused (IsNarrowRefusal bytes list) bytes) (AnswersNarrow list) (narrow_done list) free) is
 order_done (ListCode file) c answer free is =
-    ends_weaker _ _ _ c answer (over_done (c.contents file) IsListRefusal IsListing listing_done free) is
+    ends_weaker _ _ _ c answer (over_done (c.contents file) (λ bytes. IsUnrefused (IsListRefusal bytes) bytes) IsListing listing_done free) is
 order_done (CheckRun file report steps regs) c answer ((start, starts), free) (no_registers none is) = absurd (one_start regs start starts none)
 order_done (CheckRun file report steps regs) c answer ((start, starts), free) (run start' starts' is) =
     inl (
@@ -107,3 +132,12 @@ order_done (Upgrade file report) c answer free is =
     (both_done (c.contents file) (c.contents report) (λ bytes told. (old : Report) × IsReportFor bytes told old × IsOld bytes old) IsUpgrade
     (λ bytes told. Done (IsUpgrade bytes told))
     (λ bytes told status text accepted (old, of, new) is. (is, upgrade_done bytes told accepted old of status text new is)) free) is
+order_done (Refute file list at row) c answer ((point, is_point), free) (not_asked none is) = absurd (one_point at row point is_point none)
+order_done (Refute file list at row) c answer (some, free) (asked point is_point is) =
+    inl (
+      point,
+      is_point,
+      ends_weaker _ _ _ c answer
+          (over_done (c.contents file) (λ bytes. IsAskable bytes list point row) (AnswersRefute list point row) (refute_done list point row) (free point is_point)) is,
+    )
+order_done (Refute file list at row) c answer free (wanting said) = inr said

@@ -1,6 +1,8 @@
 -- Completeness: an order whose input nothing refuses is done.
 --
 --   IsUnrefused IsCause bytes   the bytes are no more than a file may have, and want of memory is the one cause of a refusal
+--   IsAskable bytes list at row   the bytes are no more than a file may have, and want of memory is the one cause for which it isn't told
+--                               whether the row holds at the point
 --   HasContents contents Is     the contents are told, and Is holds of them
 --   IsReportFor bytes told report   what is told is the text of this report of words, which isn't too long, and whose slots'
 --                               procedures and points are the file's
@@ -9,13 +11,14 @@
 --   IsUnhindered order c        the order is none of usage, and the contents of its file are told and nothing refuses them and its
 --                               list, or its number is in range and nothing refuses its list over the file made from it; and where
 --                               it names a report, its contents are told, and are one of the file, and of an old one for an upgrade;
---                               the registers of a run are a list of registers
+--                               the registers of a run are a list of registers; and a row that is asked for is one at a point of the file
 --   Done Is status text         so it is, with status 0
 --   Checked Is status text      so it is, with status 0 or 7
 --   IsDone order c answer       the call ends with such a status and the order's whole text, or as a fault or want of memory has it
 use Rattle.std.specs.Prelude.{◌≡◌, ◌⊎◌, ℕ, ◌≤◌, List, Option, Some, None, length}
 use Rattle.elf_image.specs.declared.image.Image.{Image}
 use Rattle.flow_points.specs.PointLists.{FlowPoints}
+use Rattle.flow_points.specs.declared.code_points.Point.{Point}
 use Rattle.affine_prog.specs.declared.Program.{Program}
 use Rattle.affine_lift.specs.Lifting.{IsLifted}
 use Rattle.affine_lift.specs.Tracking.{IsTrackRefusal, scope_of}
@@ -31,7 +34,7 @@ use Rattle.analyser_core.specs.Heads.{HasManyHeads}
 use Rattle.analyser_core.specs.declared.refusal.Refusal.{Refusal}
 use Rattle.analyser_core.specs.declared.refusal.Refusal.TheVariants.{Memory}
 use Rattle.start_registers.specs.Settings.{IsStart}
-use Rattle.orders.specs.Orders.{Order, Usage, Analyse, Certify, ListCode, CheckRun, Generate, Upgrade, Narrow}
+use Rattle.orders.specs.Orders.{Order, Usage, Analyse, Certify, ListCode, CheckRun, Generate, Upgrade, Narrow, Refute}
 use Rattle.refusal_lines.specs.Lines.{most_report_bytes}
 use Rattle.call_ends.specs.Calls.{Call, SaysIn, Ends, EndsOver, no_memory_text}
 use Rattle.order_answers.specs.FileRefusals.{IsCode, IsListRefusal}
@@ -39,12 +42,20 @@ use Rattle.order_answers.specs.ReportAnswers.{IsRun, IsUpgrade}
 use Rattle.order_answers.specs.Answers.{IsAnswer, IsGenAnswer, IsListing, report_text}
 use Rattle.order_answers.specs.CertsText.{certs_text}
 use Rattle.order_answers.specs.NarrowAnswers.{AnswersNarrow}
+use Rattle.order_answers.specs.RefuteAnswers.{AnswersRefute}
 use Rattle.narrow_words.specs.Accepted.{IsNarrowRefusal}
-use Rattle.top_call.specs.Answers.{EndsOverBoth}
+use Rattle.refute_answers.specs.Asked.{IsRefuteRefusal}
+use Rattle.refute_answers.specs.declared.refusal.RefuteRefusal.{RefuteRefusal}
+use Rattle.refute_answers.specs.declared.refusal.RefuteRefusal.TheVariants.{File}
+use Rattle.top_call.specs.Answers.{EndsOverBoth, IsAskedAt}
 
 pub record IsUnrefused (IsCause : Refusal → Type 0) (bytes : List ℕ) : Type 0 where
   pub short : length bytes ≤ most_bytes
   pub only_memory : (refusal : Refusal) → IsCause refusal → refusal ≡ Memory
+
+pub record IsAskable (bytes list : List ℕ) (at : Point) (row : List ℕ) : Type 0 where
+  pub short : length bytes ≤ most_bytes
+  pub only_memory : (refusal : RefuteRefusal) → IsRefuteRefusal bytes list at row refusal → refusal ≡ File Memory
 
 abbrev pub HasContents : Option (List ℕ) → (List ℕ → Type 0) → Type 0
 HasContents (Some bytes) Is = Is bytes
@@ -80,6 +91,9 @@ IsUnhindered (Upgrade file report) c =
     HasContents (c.contents file) (λ bytes. IsUnrefused (IsListRefusal bytes) bytes
     × HasContents (c.contents report) (λ told. (old : Report) × IsReportFor bytes told old × IsOld bytes old))
 IsUnhindered (Narrow file list) c = HasContents (c.contents file) (λ bytes. IsUnrefused (IsNarrowRefusal bytes list) bytes)
+IsUnhindered (Refute file list at row) c =
+    ((point : Point) × IsAskedAt at row (Some point))
+    × ((point : Point) → IsAskedAt at row (Some point) → HasContents (c.contents file) (λ bytes. IsAskable bytes list point row))
 
 abbrev pub Done : (ℕ → List ℕ → Type 0) → ℕ → List ℕ → Type 0
 Done Is status text = Is status text × (status ≡ 0)
@@ -98,3 +112,6 @@ IsDone (CheckRun file report steps regs) c answer =
 IsDone (Generate n list) c answer = Ends (Done (IsGenAnswer n list)) ⊥ c answer
 IsDone (Upgrade file report) c answer = EndsOverBoth file report (λ bytes told. Done (IsUpgrade bytes told)) c answer
 IsDone (Narrow file list) c answer = EndsOver file (λ bytes. Done (AnswersNarrow list bytes)) c answer
+IsDone (Refute file list at row) c answer =
+    ((point : Point) × IsAskedAt at row (Some point) × EndsOver file (λ bytes. Done (AnswersRefute list point row bytes)) c answer)
+    ⊎ SaysIn c 5 no_memory_text answer

@@ -12,16 +12,20 @@ ghost use Rattle.outside.specs.Counts.{HasRisen};
 ghost use Rattle.orders.specs.Orders.{texts_of, order_of, HasFewSteps};
 ghost use Rattle.orders.specs.OrdersRead.{order_in};
 ghost use Rattle.call_ends.specs.Calls.{Says, SaysIn, call, no_memory_text};
-ghost use Rattle.top_call.specs.Answers.{IsCarriedOut, IsRunOrder, usage_text};
+ghost use Rattle.top_call.specs.Answers.{IsAskedAt, IsCarriedOut, IsRefuteOrder, IsRunOrder, usage_text};
 ghost use Rattle.top_call.specs.Completeness.{IsUnhindered, IsDone};
 
-use crate::file_orders::{reply_to_analyse, reply_to_cert, reply_to_list, reply_to_narrow};
+use crate::file_orders::{
+    reply_to_analyse, reply_to_cert, reply_to_list, reply_to_narrow, reply_to_refute,
+};
 use crate::report_orders::{reply_to_run, reply_to_upgrade};
 use analyser_core::reports_tell_of_runs;
 use call_ends::{Reply, reply_of, say, say_reply};
+use flow_points::Point;
 use order_answers::answer_to_gen;
 use orders::{Order, read_order};
 use outside::{Files, Sink};
+use row_read::{read_point, row_shape};
 use run_watch::Watch;
 use start_registers::start_of;
 use std::alloc::Global;
@@ -30,7 +34,7 @@ use std::io::ErrorKind;
 use std::process::ExitCode;
 
 const USAGE: &[u8] =
-    b"usage:\nanalyse FILE --track LIST\ncert FILE --track LIST\nlist FILE\nrun FILE REPORT --steps N [--regs R]\ngen N --track LIST\nupgrade FILE REPORT\nnarrow FILE --track LIST\n";
+    b"usage:\nanalyse FILE --track LIST\ncert FILE --track LIST\nlist FILE\nrun FILE REPORT --steps N [--regs R]\ngen N --track LIST\nupgrade FILE REPORT\nnarrow FILE --track LIST\nrefute FILE --track LIST --at POINT --row ROW\n";
 
 /// Carries out the order of the arguments, those after the program's name: reads the file that it
 /// names, puts its one text into the sink, and gives the exit status. A run is checked under these four
@@ -139,6 +143,12 @@ fn carry_out<F: Files, K: Sink>(
             say_reply(out, reply_to_upgrade(alloc, files, file, report))
         }
         Order::Narrow { file, list } => say_reply(out, reply_to_narrow(alloc, files, file, list)),
+        Order::Refute {
+            file,
+            list,
+            at,
+            row,
+        } => ask_row(alloc, files, out, file, list, at, row),
     }
 }
 
@@ -167,5 +177,42 @@ fn check_run<F: Files, K: Sink>(
         ),
         Ok(None) => say(out, 2, USAGE),
         Err(_) => say_reply(out, Reply::OutOfMemory),
+    }
+}
+
+// Asks whether a row holds, where the texts are those of a point and of a row.
+fn ask_row<F: Files, K: Sink>(
+    alloc: Global,
+    files: &mut F,
+    out: &mut K,
+    file: &str,
+    list: &str,
+    at: &str,
+    row: &str,
+) -> u8
+    ensures carried_out { IsRefuteOrder file.now list.now at.now row.now
+        (call F.contents F.faults K.written K.faults files.old files.new out.old out.new) result }
+    ensures counted { K.faults out.old < K.faults out.new → result ≡ 4 }
+{
+    match asked_point(at, row) {
+        Some(point) => say_reply(out, reply_to_refute(alloc, files, file, list, point, row)),
+        None => say(out, 2, USAGE),
+    }
+}
+
+// The point that a text tells, where the other is one of a row.
+fn asked_point(at: &str, row: &str) -> Option<Point>
+    ensures { IsAskedAt at.now row.now result }
+{
+    let Some((proc_entry, address)) = read_point(at) else {
+        return None;
+    };
+    if row_shape(row) {
+        Some(Point {
+            proc_entry,
+            address,
+        })
+    } else {
+        None
     }
 }

@@ -4,7 +4,7 @@ use Rattle.order_words.proofs.Usages.{usages}
 use Rattle.order_words.proofs.laws.words_are_orders.Goals as goal
 
 pub returns-clause-texts : goal.returns-clause-texts
-returns-clause-texts c = λ file list report. texts_taken file list report
+returns-clause-texts c = λ file list report at row. texts_taken file list report at row
 
 pub returns-clause-numbers : goal.returns-clause-numbers
 returns-clause-numbers c = λ text n file list report regs is. number_taken text n file list report regs is

@@ -33,3 +33,6 @@ returns-in-Narrow-clause-carried_out g c =
 pub returns-in-Upgrade-clause-carried_out : goal.returns-in-Upgrade-clause-carried_out
 returns-in-Upgrade-clause-carried_out g c =
     rw c.in-Upgrade.is (reply_ends _ _ _ c.reply_to_upgrade.result _ c.reply_to_upgrade.ensures c.say_reply-in-Upgrade.ensures.said)
+
+pub returns-in-Refute-clause-carried_out : goal.returns-in-Refute-clause-carried_out
+returns-in-Refute-clause-carried_out g c = rw c.in-Refute.is c.ask_row.ensures.carried_out
