@@ -86,6 +86,7 @@ FRAME_CODE = told("affine-list 1", [], lambda c: [], lambda i, a, w, t: [f"{a:#x
 NARROW_LIST = "sp,ra,0x1008c:-8"
 NARROW_ROWS = [[row for row in rows if row == "none" or row == RA_SAVED or row[:8] in ("rel 1*sp", "rel 1*ra")] for rows in FRAME_ROWS]
 FRAME_NARROW = told("affine-narrow 1", [f"track {NARROW_LIST}"], lambda c: [], lambda i, a, w, t: [f"at {a:#x}"] + NARROW_ROWS[i])
+FRAME_BROKEN = "affine-refute 1\nbroken\nstart sp=0 ra=0 s0=0 a0=0\n1 open 0x10078\n2 step 1 0x1007c\npath 2\nvalue 69752\nend\n"
 FRAME_VERDICT = "affine-run 1\nsteps 16\nstop break 0x10088\nend\n"
 ONE = "affine-gen 1\nn 1\nbytes 164\npoints 11\nprocs 2\nrows 1\nunreached 0\nend\n"
 
@@ -102,6 +103,7 @@ ORDERS = {
     "run": ("run FILE REPORT --steps 100 --regs a0=3", FRAME_REPORT, FRAME_VERDICT),
     "upgrade": ("upgrade FILE REPORT", FRAME_OLD, FRAME_REPORT),
     "narrow": ("narrow FILE --track " + NARROW_LIST, None, FRAME_NARROW),
+    "refute": ("refute FILE --track " + FRAME_LIST + " --at 0x10078,0x1007c --row 1*sp", None, FRAME_BROKEN),
     "gen": ("gen 1 --track a0", None, ONE),
 }
 
