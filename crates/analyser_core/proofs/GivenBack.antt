@@ -1,12 +1,12 @@
 -- Registers that a report's words give back are certified in each procedure.
-use Rattle.std.proofs.Common.{◌≡◌, ◌≢◌, ◌<◌, ℕ, Bool, true, List, map, All, Contains, length, get_or, slice_get, Some, inl, inr, refl, sym, ap, ◌∙◌, arith, subst}
+use Rattle.std.proofs.Common.{◌≡◌, ◌≢◌, ◌<◌, ℕ, Bool, true, List, Contains, length, get_or, slice_get, Some, inl, inr, sym, ap, ◌∙◌, arith, subst}
 use Rattle.std.proofs.lemmas.List.Elements.{All-contains, Contains-get_or}
 use Rattle.std.proofs.lemmas.Option.{slice_get-get_or, slice_get_within}
 use Rattle.abi_cert.specs.Certificates.{IsCertOf}
 use Rattle.abi_cert.specs.declared.cert.Cert.{Cert}
 use Rattle.abi_cert.specs.declared.cert.Cert.TheVariants as kinds
 use Rattle.affine_lift.proofs.Cited.{number_at, number_is, owner_there}
-use Rattle.affine_prog.specs.Relations.{Certified, Returns}
+use Rattle.affine_prog.specs.Relations.{Certified}
 use Rattle.affine_prog.specs.declared.Program.{Program}
 use Rattle.elf_image.specs.declared.image.Image.{Image}
 use Rattle.flow_points.proofs.Cited.{from_map}
@@ -23,7 +23,7 @@ use Rattle.report_text.specs.declared.reports.Report.{Report}
 use Rattle.run_paths.specs.Lifts.{Lift, number}
 use Rattle.run_paths.specs.Relations.{IsSpared}
 use Rattle.run_paths.proofs.Lifted.{has_code}
-use Rattle.analyser_core.specs.Certified.{IsCertLineOf, told_in, told_of, word_of}
+use Rattle.analyser_core.specs.Certified.{IsCertLineOf, told_in, word_of}
 use Rattle.analyser_core.specs.MachineRuns.{AreGivenBack, HasCertWord, IsGivenBack, IsReportOfLift}
 use Rattle.analyser_core.specs.declared.cert_line.CertLine.{CertLine}
 

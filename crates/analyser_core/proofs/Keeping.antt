@@ -1,86 +1,95 @@
--- One inner node at most follows a node; so the states of a node are no longer needed once the one behind it has its own.
-use Rattle.std.proofs.Common.{◌≡◌, ◌≢◌, ◌∙◌, ℕ, ◌+◌, ◌<◌, ◌≤◌, inl, inr, List, [], ◌∷◌, ◌++◌, length, get_or, replicate, set, Bool, true, false, refl, ap, sym, subst, arith}
-use Rattle.std.proofs.lemmas.Bool.{cases_eq}
-use Rattle.std.proofs.lemmas.List.{length_push, length-replicate, length-set, get_or_append_left, get_or_push, get_or-set_same, get_or-set_other, get_or_default}
+-- A node has one parent; so the states of a parent are no longer needed once the last node that follows it has its own.
+use Rattle.std.proofs.Common.{◌≡◌, ◌∙◌, ℕ, ◌+◌, ◌<◌, ◌≤◌, inl, inr, List, [], ◌∷◌, ◌++◌, get_or, replicate, set, true, refl, ap, sym, subst, arith, ◌==◌}
+use Rattle.std.specs.Prelude.{Option, None, Some, IsSome, slice_index_or}
+use Rattle.std.specs.Option.{option_eq}
+use Rattle.std.proofs.lemmas.Bool.{cases_eq, eqb-true, false≢true}
+use Rattle.std.proofs.lemmas.List.{length_push, length-replicate, length-set, get_or_append_left, get_or_push, get_or-set_same, get_or-set_other}
 use Rattle.affine_prog.specs.declared.Program.{Program}
-use Rattle.affine_prog.specs.declared.Edge.{Edge}
-use Rattle.affine_prog.specs.declared.Kind.TheVariants.{Do}
-use Rattle.affine_prog.specs.Programs.{edge}
 use Rattle.affine_prog.specs.Spans.{rows_at}
-use Rattle.block_program.specs.Chains.{IsInner, edges_from}
-use Rattle.analyser_core.specs.States.{Follows, GoesOn, HasStates, AreKept, AreMarked, DropsBefore}
+use Rattle.merged_heads.specs.declared.Merging.{Merging}
+use Rattle.merged_heads.proofs.Lemmas.{same_parent}
+use Rattle.analyser_core.specs.States.{IsMerged, Follows, GoesOn, HasStates, AreKept, IsLastFrom, AreLast, DropsBefore}
 
-abbrev first_ends : List Edge → ℕ × ℕ
-first_ends [] = (0, 0)
-first_ends (e ∷ edges) = (e.from, e.to)
+module _ (program : Program) (merging : Merging) where
+  one_before : (u w v : ℕ) → Follows program merging u v → Follows program merging w v → u ≡ w
+  one_before u w v a b = (same_parent program merging v u w a.assigns b.assigns a.parent b.parent).0
 
-module _ (program : Program) where
-  one_before : (u w v : ℕ) → Follows program u v → Follows program w v → u ≡ w
-  one_before u w v a b =
-      let ends = ap first_ends (sym a.inner.into ∙ b.inner.into) in
-      sym a.from ∙ ap (λ (p : ℕ × ℕ). p.0) ends ∙ b.from
+  merged_follower : (u v : ℕ) → Follows program merging u v → IsMerged merging v
+  merged_follower u v f = let p = f.parent in subst IsSome (sym p.entry) refl
 
-  one_behind : (u v w : ℕ) → Follows program u v → Follows program u w → v ≡ w
-  one_behind u v w a b =
-      let same = a.from ∙ sym b.from in
-      ap (λ (p : ℕ × ℕ). p.1) (ap first_ends (sym a.inner.out ∙ ap (edges_from program) same ∙ b.inner.out))
-
-  -- a node that follows is marked where it comes
-  pub marks_more : (n u : ℕ) (table : List Bool) → u < n → n < program.nodes → Follows program u n → AreMarked program n table → AreMarked program (n + 1) (set table u true)
-  marks_more n u table before below follows t = record {
-    long = length-set table u true ∙ t.long;
-    marked = λ w v v_below h. elim (cases_eq w u) [
-      | inl same ↦ subst (λ (i : ℕ). get_or (set table u true) i false ≡ true) (sym same) (get_or-set_same table u true false (let l = t.long in omega arith))
-      | inr other ↦ get_or-set_other table u w true false other
-          ∙ t.marked w v (elim (cases_eq v n) [
-            | inl last ↦ absurd (other (one_before w u n (subst (Follows program w) last h) follows))
+  -- a node that follows is the last so far
+  pub marks_more : (n u : ℕ) (last : List (Option ℕ)) → u < program.nodes → Follows program merging u n → AreLast program merging n last
+      → AreLast program merging (n + 1) (set last u (Some n))
+  marks_more n u last below follows t = record {
+    long = length-set last u (Some n) ∙ t.long;
+    from = λ w v v_below h. elim (cases_eq w u) [
+      | inl same ↦
+          let here : get_or (set last u (Some n)) w None ≡ Some n =
+          subst (λ (i : ℕ). get_or (set last u (Some n)) i None ≡ Some n) (sym same) (get_or-set_same last u (Some n) None (let l = t.long in omega arith)) in
+          subst (IsLastFrom v) (sym here) (omega (arith, v_below))
+      | inr other ↦
+          let stays = get_or-set_other last u w (Some n) None other in
+          subst (IsLastFrom v) (sym stays) (t.from w v (elim (cases_eq v n) [
+            | inl now ↦ absurd (other (one_before w u n (subst (Follows program merging w) now h) follows))
             | inr earlier ↦ omega (arith, earlier, v_below)
-          ]) h
+          ]) h)
     ];
   }
 
-  pub marks_same : (n : ℕ) (table : List Bool) → (IsInner program n → ⊥) → AreMarked program n table → AreMarked program (n + 1) table
-  marks_same n table head t = record {
+  pub marks_same : (n : ℕ) (last : List (Option ℕ)) → (IsMerged merging n → ⊥) → AreLast program merging n last → AreLast program merging (n + 1) last
+  marks_same n last head t = record {
     long = t.long;
-    marked = λ u v v_below h. t.marked u v (elim (cases_eq v n) [
-      | inl last ↦ absurd (head (subst (IsInner program) last h.inner))
+    from = λ u v v_below h. t.from u v (elim (cases_eq v n) [
+      | inl now ↦ absurd (head (subst (IsMerged merging) now (merged_follower u v h)))
       | inr earlier ↦ omega (arith, earlier, v_below)
     ]) h;
   }
 
-  pub drops_none : (n : ℕ) (kept : List (List (List ℕ))) → DropsBefore program n kept kept
+  pub drops_none : (n : ℕ) (kept : List (List (List ℕ))) → DropsBefore program merging n kept kept
   drops_none n kept = record { long = refl; same = λ v on. refl }
 
-  pub drops_one : (n u : ℕ) (kept : List (List (List ℕ))) → Follows program u n → DropsBefore program n kept (set kept u [])
-  drops_one n u kept follows = record {
+  pub drops_one : (n u : ℕ) (last : List (Option ℕ)) (kept : List (List (List ℕ))) → AreLast program merging program.nodes last → slice_index_or last u None ≡ Some n
+      → DropsBefore program merging n kept (set kept u [])
+  drops_one n u last kept t is_last = record {
     long = length-set kept u [];
     same = λ v on. get_or-set_other kept u v [] [] (λ e.
-        let last : n ≡ on.next = one_behind u n on.next follows (subst (λ (i : ℕ). Follows program i on.next) e on.follows) in
-        let l = on.later in absurd (omega (arith, last, l)));
+        let one : IsLastFrom on.next (Some n) =
+        subst (IsLastFrom on.next) is_last (t.from u on.next on.node (subst (λ (i : ℕ). Follows program merging i on.next) e on.follows)) in
+        let l = on.later in absurd (omega (arith, one, l)));
   }
 
   -- the node's own states are kept where a later one follows
-  pub keeps_one : (n : ℕ) (kept dropped : List (List (List ℕ))) (last : List (List ℕ)) → AreKept program n kept → DropsBefore program n kept dropped
-      → (IsInner program n → GoesOn program (n + 1) n → HasStates program n last) → AreKept program (n + 1) (dropped ++ last ∷ [])
-  keeps_one n kept dropped last k d own =
+  pub keeps_one : (n : ℕ) (kept dropped : List (List (List ℕ))) (states : List (List ℕ)) → AreKept program merging n kept → DropsBefore program merging n kept dropped
+      → (IsMerged merging n → GoesOn program merging (n + 1) n → HasStates program n states) → AreKept program merging (n + 1) (dropped ++ states ∷ [])
+  keeps_one n kept dropped states k d own =
       let long = d.long ∙ k.long in
       record {
-        long = length_push dropped last ∙ ap (λ (m : ℕ). m + 1) long;
-        exact = λ v below inner on. elim (cases_eq v n) [
-          | inl e ↦ subst (λ (i : ℕ). HasStates program i (rows_at (dropped ++ last ∷ []) i)) (sym e)
-              (subst (HasStates program n) (sym (get_or_push dropped last [] n long)) (own (subst (IsInner program) e inner) (subst (GoesOn program (n + 1)) e on)))
+        long = length_push dropped states ∙ ap (λ (m : ℕ). m + 1) long;
+        exact = λ v below merged on. elim (cases_eq v n) [
+          | inl e ↦ subst (λ (i : ℕ). HasStates program i (rows_at (dropped ++ states ∷ []) i)) (sym e)
+              (subst (HasStates program n) (sym (get_or_push dropped states [] n long)) (own (subst (IsMerged merging) e merged) (subst (GoesOn program merging (n + 1)) e on)))
           | inr other ↦
               let before : v < n = omega (arith, other, below) in
-              let later : GoesOn program n v = record { next = on.next; later = let l = on.later in omega arith; node = on.node; follows = on.follows } in
-              subst (HasStates program v) (sym (get_or_append_left dropped (last ∷ []) [] v (omega (arith, before, long)) ∙ d.same v on)) (k.exact v before inner later)
+              let later : GoesOn program merging n v = record { next = on.next; later = let l = on.later in omega arith; node = on.node; follows = on.follows } in
+              subst (HasStates program v) (sym (get_or_append_left dropped (states ∷ []) [] v (omega (arith, before, long)) ∙ d.same v on)) (k.exact v before merged later)
         ];
       }
 
-pub marks_all : (program : Program) (n : ℕ) (table : List Bool) → program.nodes ≤ n → AreMarked program n table → AreMarked program program.nodes table
-marks_all program n table past t = record { long = t.long; marked = λ u v below h. t.marked u v (omega (arith, below, past)) h }
+pub marks_all : (program : Program) (merging : Merging) (n : ℕ) (last : List (Option ℕ)) → program.nodes ≤ n → AreLast program merging n last → AreLast program merging program.nodes last
+marks_all program merging n last past t = record { long = t.long; from = λ u v below h. t.from u v (omega (arith, below, past)) h }
 
-pub marks_none : (program : Program) → AreMarked program 0 (replicate program.nodes false)
-marks_none program = record {
-  long = length-replicate program.nodes false;
-  marked = λ u v below h. absurd (omega (arith, below));
+pub marks_none : (program : Program) (merging : Merging) → AreLast program merging 0 (replicate program.nodes None)
+marks_none program merging = record {
+  long = length-replicate program.nodes None;
+  from = λ u v below h. absurd (omega (arith, below));
 }
+
+-- a node that another follows has a last one
+pub some_last : (v : ℕ) (o : Option ℕ) → IsLastFrom v o → IsSome o
+some_last v None none = absurd none
+some_last v (Some w) is = refl
+
+-- two options that are equal by their test
+pub equal_some : (o : Option ℕ) (n : ℕ) → option_eq (λ (a b : ℕ). a == b) o (Some n) ≡ true → o ≡ Some n
+equal_some None n e = absurd (false≢true e)
+equal_some (Some k) n e = ap Some (eqb-true k n e)

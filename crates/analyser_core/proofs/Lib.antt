@@ -7,7 +7,7 @@ mod GivenBack
 mod RunsTold
 pub mod NodeStates
 mod Counted
-mod InnerSoFar
+mod MergedSoFar
 pub mod Keeping
 mod Telling
 mod Answered

@@ -1,5 +1,5 @@
 -- What is told of the states at a node is told of a node to which they are passed on.
-use Rattle.std.proofs.Common.{◌≡◌, ℕ, ◌<◌, List, [], Contains, ap, subst, arith}
+use Rattle.std.proofs.Common.{◌≡◌, ℕ, ◌<◌, List, [], Contains, ap, subst}
 use Rattle.std.proofs.lemmas.List.Elements.{All-contains}
 use Rattle.row_modules.specs.Modules.{SameModule}
 use Rattle.row_modules.specs.Positions.{with_constant}
@@ -9,7 +9,9 @@ use Rattle.affine_prog.specs.declared.Program.{Program}
 use Rattle.affine_prog.specs.declared.Kind.TheVariants.{Do}
 use Rattle.affine_prog.specs.Programs.{edge, visible_in, IsWellFormed, IsEdgeOf}
 use Rattle.affine_prog.specs.Spans.{IsStateAt}
-use Rattle.block_program.proofs.Lemmas.{passed_on}
+use Rattle.merged_heads.specs.declared.Merging.{Merging}
+use Rattle.merged_heads.specs.Merges.{IsMergedTable}
+use Rattle.merged_heads.proofs.Lemmas.{parent_member, passed_on}
 use Rattle.report_text.specs.declared.points.PointState.{PointState}
 use Rattle.report_text.specs.declared.points.PointState.TheVariants.{Unreached, Rows}
 use Rattle.analyser_core.specs.States.{HasStates}
@@ -36,10 +38,11 @@ module _ (program : Program) where
   relates_at u states known state related others there =
       related_alike (told_positions program u) states others (same_with 17 _ (IsStateAt program u) _ known (turned 17 _ (IsStateAt program u) there)) state related
 
-  pub passed_related : IsWellFormed program → (u v : ℕ) → PassesOn program u v → (state : PointState) → RelatesAt program u state → RelatesAt program v state
-  passed_related formed u v p state related states known =
-      let e = All-contains (IsEdgeOf program) program.edges (edge u v (Do [])) formed.edges p.along in
+  pub passed_related : IsWellFormed program → (merging : Merging) → IsMergedTable program merging → (u v : ℕ) → v < program.nodes → PassesOn program merging u v → (state : PointState) → RelatesAt program u state → RelatesAt program v state
+  passed_related formed merging table u v below p state related states known =
+      let e = All-contains (IsEdgeOf program) program.edges (edge u v (Do [])) formed.edges (parent_member program merging v u [] p.parent) in
+      let passed = passed_on program merging formed table u v below p.parent in
       let positions : told_positions program u ≡ told_positions program v = ap (λ (q : ℕ). with_constant (visible_in program q)) e.one_owner in
       let moved : SameModule 17 (IsStateAt program v) (IsStateAt program u) =
-      same_members 17 (IsStateAt program v) (IsStateAt program u) (λ s. (passed_on program u v p.inner p.along s).0) (λ s. (passed_on program u v p.inner p.along s).1) in
+      same_members 17 (IsStateAt program v) (IsStateAt program u) (λ s. (passed s).0) (λ s. (passed s).1) in
       subst (λ (set : ℕ). Relates set states state) positions (related states (same_with 17 _ (IsStateAt program v) _ known moved))

@@ -13,7 +13,7 @@ use Rattle.flow_points.specs.PointLists.{FlowPoints}
 use Rattle.affine_prog.specs.declared.Program.{Program}
 use Rattle.affine_prog.specs.Spans.{AreReached}
 use Rattle.affine_lift.specs.Lifting.{IsLifted}
-use Rattle.block_program.specs.BlockPrograms.{NumbersHeads}
+use Rattle.block_program.specs.InnerNodes.{NumbersHeads}
 use Rattle.report_text.specs.declared.names.Name.{Name}
 use Rattle.report_text.specs.declared.reports.Report.{Report}
 use Rattle.analyser_core.specs.Heads.{most_heads, HasFewHeads, HasManyHeads}

@@ -1,27 +1,31 @@
--- The states at all nodes, as they are made: those of the heads by the block program, and those of inner nodes one after the
--- other, each kept until the one inner node behind it has its own.
+-- The states at all nodes, as they are made: those of the heads by the block program, and those of merged nodes one after the
+-- other, each kept until the last node that follows it has its own.
 --
---   states_by reached made number        the rows of the head of that number, or those made for an inner node
---   states_in blocks reached inner v     the rows of node v, by the head's number or by a table of inner nodes
---   inner_part number                    1 for an inner node, and 0 for a head
---   inner_count blocks                   how many nodes are inner
+--   states_by reached made number        the rows of the head of that number, or those made for a merged node
+--   states_in blocks reached merged v    the rows of node v, by the head's number or by a table of merged nodes
+--   merged_part number                   1 for a merged node, and 0 for a head
+--   merged_count blocks                  how many nodes are merged
+--   IsMerged merging v                   v is merged
 --   HasStates program u states           the rows generate the module of the states at node u
---   AreInnerStatesBelow program n inner  a list for each node below n, and where the node is inner a basis of its states
---   AreInnerStates program inner         so for all nodes
---   AreCounted program before after      the counter rose by at least the number of rows of bases of the states at inner nodes
---   Follows program u v                  v is inner, and its one edge comes from u
---   GoesOn program n u                   a node from n on follows u
---   AreKept program n kept               a list for each node below n, and where that is inner and a node from n on follows it, a
+--   AreMergedStatesBelow program merging n merged    a list for each node below n, and where the node is merged a basis of its states
+--   AreMergedStates program merging merged           so for all nodes
+--   AreCounted program merging before after          the counter rose by at least the number of rows of bases of the states at merged nodes
+--   Follows program merging u v          u is the parent of the merged node v
+--   GoesOn program merging n u           a node from n on follows u
+--   AreKept program merging n kept       a list for each node below n, and where that is merged and a node from n on follows it, a
 --                                        basis of its states
---   DropsBefore program n old new        a table as long, which has the same states of each node that a node behind n follows
---   AreMarked program n table            the table marks each node that a node below n follows
-use Rattle.std.specs.Prelude.{◌≡◌, ℕ, Bool, true, false, ◌+◌, ◌<◌, ◌≤◌, List, All, Contains, Option, None, Some, length, sum_by, slice_index_or}
+--   DropsBefore program merging n old new    a table as long, which has the same states of each node that a node behind n follows
+--   IsLastFrom v o                       o is a node, v or a later one
+--   AreLast program merging n last       the table has, for each node that nodes below n follow, the last one of them or a later one
+use Rattle.std.specs.Prelude.{◌≡◌, ℕ, ◌+◌, ◌<◌, ◌≤◌, List, All, Contains, Option, None, Some, IsSome, MatchOption, length, sum_by, slice_index_or}
 use Rattle.row_modules.specs.Bases.{IsLeadingBasis}
 use Rattle.row_modules.specs.Modules.{SameModule}
+use Rattle.affine_prog.specs.declared.Assign.{Assign}
 use Rattle.affine_prog.specs.declared.Program.{Program}
 use Rattle.affine_prog.specs.Spans.{rows_at, IsStateAt}
 use Rattle.block_program.specs.Contractions.{Contraction}
-use Rattle.block_program.specs.Chains.{IsInner}
+use Rattle.merged_heads.specs.declared.Merging.{Merging}
+use Rattle.merged_heads.specs.Merges.{edge_number, IsParent}
 use Rattle.block_program.specs.Numbers.{number_of}
 
 abbrev pub states_by : List (List (List ℕ)) → List (List ℕ) → Option ℕ → List (List ℕ)
@@ -29,49 +33,55 @@ states_by reached made None = made
 states_by reached made (Some i) = rows_at reached i
 
 abbrev pub states_in : Contraction → List (List (List ℕ)) → List (List (List ℕ)) → ℕ → List (List ℕ)
-states_in blocks reached inner v = states_by reached (rows_at inner v) (number_of blocks v)
+states_in blocks reached merged v = states_by reached (rows_at merged v) (number_of blocks v)
 
-abbrev pub inner_part : Option ℕ → ℕ
-inner_part None = 1
-inner_part (Some i) = 0
+abbrev pub merged_part : Option ℕ → ℕ
+merged_part None = 1
+merged_part (Some i) = 0
 
-abbrev pub inner_count : Contraction → ℕ
-inner_count blocks = sum_by inner_part blocks.numbers
+abbrev pub merged_count : Contraction → ℕ
+merged_count blocks = sum_by merged_part blocks.numbers
 
 abbrev pub HasStates : Program → ℕ → List (List ℕ) → Type 0
 HasStates program u states = SameModule 17 (Contains states) (IsStateAt program u)
 
-pub record AreInnerStatesBelow (program : Program) (n : ℕ) (inner : List (List (List ℕ))) : Type 0 where
-  pub long : length inner ≡ n
-  pub bases : All (IsLeadingBasis 17) inner
-  pub exact : (v : ℕ) → v < n → IsInner program v → HasStates program v (rows_at inner v)
+abbrev pub IsMerged : Merging → ℕ → Type 0
+IsMerged merging v = IsSome (edge_number merging v)
 
-abbrev pub AreInnerStates : Program → List (List (List ℕ)) → Type 0
-AreInnerStates program inner = AreInnerStatesBelow program program.nodes inner
+pub record AreMergedStatesBelow (program : Program) (merging : Merging) (n : ℕ) (merged : List (List (List ℕ))) : Type 0 where
+  pub long : length merged ≡ n
+  pub bases : All (IsLeadingBasis 17) merged
+  pub exact : (v : ℕ) → v < n → IsMerged merging v → HasStates program v (rows_at merged v)
 
-pub record AreCounted (program : Program) (before after : ℕ) : Type 0 where
-  pub inner : List (List (List ℕ))
-  pub states : AreInnerStates program inner
-  pub rows : before + sum_by length inner ≤ after
+abbrev pub AreMergedStates : Program → Merging → List (List (List ℕ)) → Type 0
+AreMergedStates program merging merged = AreMergedStatesBelow program merging program.nodes merged
 
-pub record Follows (program : Program) (u v : ℕ) : Type 0 where
-  pub inner : IsInner program v
-  pub from : inner.from ≡ u
+pub record AreCounted (program : Program) (merging : Merging) (before after : ℕ) : Type 0 where
+  pub merged : List (List (List ℕ))
+  pub states : AreMergedStates program merging merged
+  pub rows : before + sum_by length merged ≤ after
 
-pub record GoesOn (program : Program) (n u : ℕ) : Type 0 where
+pub record Follows (program : Program) (merging : Merging) (u v : ℕ) : Type 0 where
+  pub assigns : List Assign
+  pub parent : IsParent program merging v u assigns
+
+pub record GoesOn (program : Program) (merging : Merging) (n u : ℕ) : Type 0 where
   pub next : ℕ
   pub later : n ≤ next
   pub node : next < program.nodes
-  pub follows : Follows program u next
+  pub follows : Follows program merging u next
 
-pub record AreKept (program : Program) (n : ℕ) (kept : List (List (List ℕ))) : Type 0 where
+pub record AreKept (program : Program) (merging : Merging) (n : ℕ) (kept : List (List (List ℕ))) : Type 0 where
   pub long : length kept ≡ n
-  pub exact : (v : ℕ) → v < n → IsInner program v → GoesOn program n v → HasStates program v (rows_at kept v)
+  pub exact : (v : ℕ) → v < n → IsMerged merging v → GoesOn program merging n v → HasStates program v (rows_at kept v)
 
-pub record DropsBefore (program : Program) (n : ℕ) (old new : List (List (List ℕ))) : Type 0 where
+pub record DropsBefore (program : Program) (merging : Merging) (n : ℕ) (old new : List (List (List ℕ))) : Type 0 where
   pub long : length new ≡ length old
-  pub same : (v : ℕ) → GoesOn program (n + 1) v → rows_at new v ≡ rows_at old v
+  pub same : (v : ℕ) → GoesOn program merging (n + 1) v → rows_at new v ≡ rows_at old v
 
-pub record AreMarked (program : Program) (n : ℕ) (table : List Bool) : Type 0 where
-  pub long : length table ≡ program.nodes
-  pub marked : (u v : ℕ) → v < n → Follows program u v → slice_index_or table u false ≡ true
+abbrev pub IsLastFrom : ℕ → Option ℕ → Type 0
+IsLastFrom v o = MatchOption o ⊥ (λ w. v ≤ w)
+
+pub record AreLast (program : Program) (merging : Merging) (n : ℕ) (last : List (Option ℕ)) : Type 0 where
+  pub long : length last ≡ program.nodes
+  pub from : (u v : ℕ) → v < n → Follows program merging u v → IsLastFrom v (slice_index_or last u None)

@@ -6,7 +6,7 @@
 --   Relates set states state       the state tells the relations on these positions of the module of the states
 --   RelatesAt program u state      the state tells the relations of the states at node u, on what is visible there
 --   AreRelated program told        so does each of the first points at its node
---   PassesOn program u v           an edge that assigns nothing is the one edge into the inner node v, and comes from u
+--   PassesOn program merging u v   u is the parent of the merged node v, and a smaller node, and its edge assigns nothing
 --   IsTold program points names u point
 --                                  the point is point u, tells what holds there, and its rows are those of a report
 --   AreTold program points names told
@@ -19,10 +19,10 @@ use Rattle.row_modules.specs.Forms.{Annihilates}
 use Rattle.relation_solver.specs.Zero.{HasZeroAlone}
 use Rattle.flow_points.specs.PointLists.{FlowPoints}
 use Rattle.flow_points.specs.declared.code_points.CodePoint.{CodePoint}
-use Rattle.affine_prog.specs.Programs.{edge, owner_of, visible_in}
+use Rattle.affine_prog.specs.Programs.{owner_of, visible_in}
 use Rattle.affine_prog.specs.declared.Program.{Program}
-use Rattle.affine_prog.specs.declared.Kind.TheVariants.{Do}
-use Rattle.block_program.specs.Chains.{IsInner}
+use Rattle.merged_heads.specs.declared.Merging.{Merging}
+use Rattle.merged_heads.specs.Merges.{IsParent}
 use Rattle.report_text.specs.Reports.{AreRowsAt}
 use Rattle.report_text.specs.declared.names.Name.{Name}
 use Rattle.report_text.specs.declared.points.PointRows.{PointRows}
@@ -50,10 +50,9 @@ RelatesAt program u state = (states : List (List ℕ)) → HasStates program u s
 abbrev pub AreRelated : Program → List PointRows → Type 0
 AreRelated program told = (u : ℕ) (point : PointRows) → slice_get told u ≡ Some point → RelatesAt program u point.state
 
-pub record PassesOn (program : Program) (u v : ℕ) : Type 0 where
+pub record PassesOn (program : Program) (merging : Merging) (u v : ℕ) : Type 0 where
   pub below : u < v
-  pub inner : IsInner program v
-  pub along : Contains program.edges (edge u v (Do []))
+  pub parent : IsParent program merging v u []
 
 pub record IsTold (program : Program) (points : FlowPoints) (names : List Name) (u : ℕ) (point : PointRows) : Type 0 where
   pub code : CodePoint

@@ -14,7 +14,7 @@ use Rattle.row_modules.specs.Bases.{IsLeadingBasis}
 use Rattle.flow_points.specs.PointLists.{FlowPoints}
 use Rattle.affine_prog.specs.declared.Program.{Program}
 use Rattle.affine_prog.specs.Spans.{AreReached}
-use Rattle.block_program.specs.BlockPrograms.{NumbersHeads}
+use Rattle.block_program.specs.InnerNodes.{NumbersHeads}
 use Rattle.report_text.specs.declared.names.Name.{Name}
 use Rattle.analyser_core.specs.Reports.{IsLiftedFrom}
 

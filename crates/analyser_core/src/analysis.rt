@@ -18,7 +18,7 @@ use crate::certify::{certify, words_of};
 use crate::tell::{known_states, told};
 use affine_lift::lift;
 use affine_prog::Program;
-use block_program::{Blocks, contract};
+use block_program::{Blocks, contract_merged};
 use call_summaries::exits;
 use flow_points::Points;
 use frame_offsets::offsets;
@@ -30,7 +30,7 @@ use std::alloc::Global;
 use std::marker::Brand;
 use std::sync::ledger::{Blank, Ledger};
 
-/// A program may have this many heads, nodes where bases of maps are kept.
+/// A program may have this many heads, by the simple notion: bases of maps are kept at no more nodes.
 pub const MOST_HEADS: u32 = 4096;
 
 /// What an analysis found: the report, and the certificates that it tells.
@@ -98,8 +98,8 @@ fn analysis_of<L: Ledger>(
 {
     let offsets = offsets(alloc, points)?;
     let program = lift(alloc, points, &offsets, &tracked)?;
-    let blocks = contract(alloc, &program)?;
-    if blocks.small().nodes > MOST_HEADS {
+    let blocks = contract_merged(alloc, &program)?;
+    if blocks.simple_heads() > MOST_HEADS {
         return Err(Refusal::Heads(MOST_HEADS));
     }
     let analysis = analysis_by(alloc, points, tracked, &program, &blocks, steps)?;
@@ -118,7 +118,7 @@ fn analysis_by<L: Ledger>(
     requires lifted { IsLifted points.now tracked.names program.now }
     requires formed { IsWellFormed program.now }
     requires blocks { AreBlocks program.now blocks.now }
-    requires few { blocks.now.small.nodes ≤ most_heads }
+    requires few { blocks.now.simple_heads ≤ most_heads }
     ensures made { IfOk result (λ a. IsMade points.now tracked.names steps.old steps.new a.report a.certs) }
     ensures worked { HasWorked points.now tracked.names steps.old steps.new }
 {

@@ -1,22 +1,21 @@
 //! The states that are kept for the nodes to come.
 
-ghost use Rattle.std.specs.Prelude.{◌≡◌, ◌+◌, ◌++◌, ◌∷◌, ◌<◌, [], true, false, None, length, slice_index_or, IfOk, OnOk, MatchOption};
+ghost use Rattle.std.specs.Prelude.{◌≡◌, ℕ, ◌+◌, ◌++◌, ◌∷◌, ◌<◌, [], None, Some, IsSome, length, slice_index_or, slice_set, IfOk, OnOk, MatchOption};
 ghost use Rattle.affine_prog.specs.Programs.{IsWellFormed};
-ghost use Rattle.block_program.specs.Chains.{IsInner};
 ghost use Rattle.block_program.specs.Numbers.{AreBlocks, number_of};
-ghost use Rattle.analyser_core.specs.States.{Follows, HasStates, AreKept, AreMarked, DropsBefore};
+ghost use Rattle.analyser_core.specs.States.{IsMerged, Follows, HasStates, AreKept, AreLast, DropsBefore};
 
 use affine_prog::Program;
 use block_program::Blocks;
 use lead_basis::{Basis, Memory};
 use std::alloc::Global;
 
-/// The node that an inner node follows.
+/// The parent of a merged node.
 fn node_before(program: &Program, blocks: &Blocks, node: u32) -> Option<u32>
     requires formed { IsWellFormed program.now }
     requires blocks { AreBlocks program.now blocks.now }
     requires node { node < program.now.nodes }
-    ensures { MatchOption result (IsInner program.now node → ⊥) (λ from. Follows program.now from node) }
+    ensures { MatchOption result (IsMerged blocks.now.merging node → ⊥) (λ from. Follows program.now blocks.now.merging from node) }
 {
     if blocks.node_of(node).is_some() {
         return None;
@@ -25,87 +24,109 @@ fn node_before(program: &Program, blocks: &Blocks, node: u32) -> Option<u32>
     Some(edge.from)
 }
 
-// Marks the node that a node follows.
-fn mark_before(program: &Program, blocks: &Blocks, table: &mut Vec<bool>, node: u32)
+// Marks that a node follows its parent, after all that were marked before.
+fn mark_before(program: &Program, blocks: &Blocks, last: &mut Vec<Option<u32>>, node: u32)
     requires formed { IsWellFormed program.now }
     requires blocks { AreBlocks program.now blocks.now }
     requires node { node < program.now.nodes }
-    requires marked { AreMarked program.now node table.now.items }
-    ensures { AreMarked program.now (node + 1) table.new.items }
+    requires marked { AreLast program.now blocks.now.merging node last.now.items }
+    ensures { AreLast program.now blocks.now.merging (node + 1) last.new.items }
 {
     if let Some(from) = node_before(program, blocks, node) {
-        table[from as usize] = true;
+        put_last(last, from, node);
     }
 }
 
-/// A table that marks each node that an inner one follows.
-pub fn followed(alloc: Global, program: &Program, blocks: &Blocks) -> Result<Vec<bool>, Memory>
+fn put_last(last: &mut Vec<Option<u32>>, at: u32, node: u32)
+    requires { at < length last.now.items }
+    ensures { last.new.items ≡ slice_set last.old.items at (Some node) }
+{
+    last[at as usize] = Some(node);
+}
+
+/// For each node the last merged node of which it is the parent.
+pub fn last_followers(
+    alloc: Global,
+    program: &Program,
+    blocks: &Blocks,
+) -> Result<Vec<Option<u32>>, Memory>
     requires formed { IsWellFormed program.now }
     requires blocks { AreBlocks program.now blocks.now }
-    ensures { IfOk result (λ table. AreMarked program.now program.now.nodes table.items) }
+    ensures { IfOk result (λ last. AreLast program.now blocks.now.merging program.now.nodes last.items) }
 {
-    let mut table = match vec![in alloc; false; program.nodes as usize] {
-        Ok(table) => table,
+    let mut last = match vec![in alloc; None; program.nodes as usize] {
+        Ok(last) => last,
         Err(_) => return Err(Memory),
     };
     for node in 0..program.nodes {
-        mark_before(program, blocks, &mut table, node);
+        mark_before(program, blocks, &mut last, node);
     }
-    Ok(table)
+    Ok(last)
 }
 
-// Drops the states of the node that a node follows.
+// Drops the states of the parent of a node, if that is the last one that follows it.
 fn drop_before(
     alloc: Global,
     program: &Program,
     blocks: &Blocks,
+    last: &[Option<u32>],
     kept: &mut Vec<Basis<17>>,
     node: u32,
 )
     requires formed { IsWellFormed program.now }
     requires blocks { AreBlocks program.now blocks.now }
+    requires last { AreLast program.now blocks.now.merging program.now.nodes last.now }
     requires node { node < program.now.nodes }
     requires long { length kept.now.items ≡ node }
-    ensures { DropsBefore program.now node kept.old.items kept.new.items }
+    ensures { DropsBefore program.now blocks.now.merging node kept.old.items kept.new.items }
 {
     if let Some(from) = node_before(program, blocks, node) {
-        kept[from as usize] = Basis::new(alloc);
+        if last[from as usize] == Some(node) {
+            empty_at(alloc, kept, from);
+        }
     }
 }
 
-// The states that were made for a node, if it is marked.
-fn wanted(alloc: Global, table: &[bool], made: Basis<17>, node: u32) -> Basis<17>
-    requires { node < length table.now }
-    ensures { slice_index_or table.now node false ≡ true → result ≡ made }
+fn empty_at(alloc: Global, kept: &mut Vec<Basis<17>>, at: u32)
+    requires { at < length kept.now.items }
+    ensures { kept.new.items ≡ slice_set kept.old.items at [] }
 {
-    if table[node as usize] {
+    kept[at as usize] = Basis::new(alloc);
+}
+
+// The states that were made for a node, if a node follows it.
+fn wanted(alloc: Global, last: &[Option<u32>], made: Basis<17>, node: u32) -> Basis<17>
+    requires { node < length last.now }
+    ensures { IsSome (slice_index_or last.now node None) → result ≡ made }
+{
+    if last[node as usize].is_some() {
         made
     } else {
         Basis::new(alloc)
     }
 }
 
-/// Keeps the states that were made for a node, if a node follows it, and drops those of the node before it, which no other
-/// node follows.
+/// Keeps the states that were made for a node, if a node follows it, and drops those of its parent behind the last node that
+/// follows that one.
 pub fn keep(
     alloc: Global,
     program: &Program,
     blocks: &Blocks,
-    table: &[bool],
+    last: &[Option<u32>],
     kept: &mut Vec<Basis<17>>,
     made: Basis<17>,
     node: u32,
 ) -> Result<(), Memory>
     requires formed { IsWellFormed program.now }
     requires blocks { AreBlocks program.now blocks.now }
-    requires table { AreMarked program.now program.now.nodes table.now }
-    requires kept { AreKept program.now node kept.now.items }
+    requires last { AreLast program.now blocks.now.merging program.now.nodes last.now }
+    requires kept { AreKept program.now blocks.now.merging node kept.now.items }
     requires made { number_of blocks.now node ≡ None → HasStates program.now node made }
     requires node { node < program.now.nodes }
-    ensures { OnOk result (AreKept program.now (node + 1) kept.new.items) }
+    ensures { OnOk result (AreKept program.now blocks.now.merging (node + 1) kept.new.items) }
 {
-    drop_before(alloc, program, blocks, kept, node);
-    push(kept, wanted(alloc, table, made, node))?;
+    drop_before(alloc, program, blocks, last, kept, node);
+    push(kept, wanted(alloc, last, made, node))?;
     Ok(())
 }
 

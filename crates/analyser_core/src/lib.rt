@@ -6,7 +6,7 @@
 //! which of sp, ra and s0 to s11 it leaves as they were. What holds is defined over paths alone
 //! (`affine_prog`), and what the program is, over walks and instructions (`affine_lift`).
 //! [`image_of`] and [`points_of`] are its first steps. [`upgrade`] gives a report without certificates those of its
-//! points' procedures. [`followed`], [`next_states`], [`states_at`] and [`keep`] go through a program's nodes with the states
+//! points' procedures. [`last_followers`], [`next_states`], [`states_at`] and [`keep`] go through a program's nodes with the states
 //! at each, and [`visible_at`] gives what is visible there, for others that tell of states. Texts, files and commands are
 //! left to others.
 //!
@@ -31,7 +31,7 @@ pub use accept::{image_of, points_of};
 pub use analysis::{Analysis, MOST_HEADS, analyse, analyse_uncounted};
 pub use cert_line::CertLine;
 pub use certify::word_of;
-pub use kept::{followed, keep};
+pub use kept::{keep, last_followers};
 pub use laws::reports_tell_of_runs;
 pub use point_state::visible_at;
 pub use refusal::Refusal;

@@ -40,12 +40,12 @@ pub(crate) fn state_at(
     }
 }
 
-// The node whose states are passed on to a node as they are, by its one edge.
+// The node whose states are passed on to a node as they are, by the edge from its parent.
 fn passed_from(program: &Program, blocks: &Blocks, node: u32) -> Option<u32>
     requires formed { IsWellFormed program.now }
     requires blocks { AreBlocks program.now blocks.now }
     requires node { node < program.now.nodes }
-    ensures { IfSome result (λ from. PassesOn program.now from node) }
+    ensures { IfSome result (λ from. PassesOn program.now blocks.now.merging from node) }
 {
     if blocks.node_of(node).is_some() {
         return None;

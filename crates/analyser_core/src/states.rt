@@ -1,13 +1,13 @@
-//! The states at a node: those at a head come from the block program, those at an inner node are pushed along its one edge.
+//! The states at a node: those at a head come from the block program, those at a merged node are pushed along the edge from
+//! its parent.
 
 ghost use Rattle.std.specs.Prelude.{◌≡◌, ℕ, ◌+◌, ◌*◌, ◌<◌, ◌≤◌, All, Contains, None, Some, length, sum_by, IfOk};
 ghost use Rattle.row_modules.specs.Bases.{IsLeadingBasis};
 ghost use Rattle.row_modules.specs.Modules.{SameModule};
 ghost use Rattle.affine_prog.specs.Programs.{IsWellFormed};
 ghost use Rattle.affine_prog.specs.Spans.{IsStateAt, AreReached};
-ghost use Rattle.block_program.specs.Chains.{IsInner};
 ghost use Rattle.block_program.specs.Numbers.{AreBlocks, number_of};
-ghost use Rattle.analyser_core.specs.States.{HasStates, states_by, inner_part, AreKept};
+ghost use Rattle.analyser_core.specs.States.{HasStates, states_by, merged_part, AreKept};
 
 use affine_prog::Program;
 use block_program::{Blocks, push};
@@ -16,7 +16,7 @@ use reach_modules::Reach;
 use std::alloc::Global;
 use std::sync::ledger::Ledger;
 
-/// A basis of the states at a node: the block program's at a head, and the one that was made at an inner node.
+/// A basis of the states at a node: the block program's at a head, and the one that was made at a merged node.
 pub fn states_at<'a>(
     blocks: &Blocks,
     reached: &'a Reach,
@@ -33,7 +33,7 @@ pub fn states_at<'a>(
     }
 }
 
-// A basis of the states at an inner node, from those at the node before it.
+// A basis of the states at a merged node, from those at its parent.
 fn push_into<L: Ledger>(
     alloc: Global,
     program: &Program,
@@ -46,9 +46,9 @@ fn push_into<L: Ledger>(
     requires formed { IsWellFormed program.now }
     requires blocks { AreBlocks program.now blocks.now }
     requires reached { AreReached blocks.now.small reached.now }
-    requires kept { AreKept program.now node kept.now }
+    requires kept { AreKept program.now blocks.now.merging node kept.now }
     requires node { node < program.now.nodes }
-    requires is_inner { number_of blocks.now node ≡ None }
+    requires is_merged { number_of blocks.now node ≡ None }
     ensures exact { IfOk result (λ states. HasStates program.now node states) }
     ensures never_falls { steps.old ≤ steps.new }
     ensures counts_no_more { steps.new ≤ steps.old + 64 * (program.now.width + 1) }
@@ -60,7 +60,7 @@ fn push_into<L: Ledger>(
     push(alloc, edge, before, steps)
 }
 
-/// A basis of the states at a node where it is inner, from those that are kept, and one without rows where it is a head.
+/// A basis of the states at a node where it is merged, from those that are kept, and one without rows where it is a head.
 pub fn next_states<L: Ledger>(
     alloc: Global,
     program: &Program,
@@ -73,11 +73,11 @@ pub fn next_states<L: Ledger>(
     requires formed { IsWellFormed program.now }
     requires blocks { AreBlocks program.now blocks.now }
     requires reached { AreReached blocks.now.small reached.now }
-    requires kept { AreKept program.now node kept.now }
+    requires kept { AreKept program.now blocks.now.merging node kept.now }
     requires node { node < program.now.nodes }
     ensures exact { IfOk result (λ states. number_of blocks.now node ≡ None → HasStates program.now node states) }
     ensures never_falls { steps.old ≤ steps.new }
-    ensures counts_no_more { steps.new ≤ steps.old + 64 * (program.now.width + 1) * inner_part (number_of blocks.now node) }
+    ensures counts_no_more { steps.new ≤ steps.old + 64 * (program.now.width + 1) * merged_part (number_of blocks.now node) }
     ensures counts_rows { IfOk result (λ states. steps.old + length states ≤ steps.new) }
 {
     match blocks.node_of(node) {

@@ -6,10 +6,10 @@ ghost use Rattle.affine_prog.specs.Programs.{IsWellFormed};
 ghost use Rattle.affine_prog.specs.Spans.{AreReached};
 ghost use Rattle.affine_lift.specs.Lifting.{IsLifted};
 ghost use Rattle.block_program.specs.Numbers.{AreBlocks};
-ghost use Rattle.analyser_core.specs.States.{HasStates, inner_count, AreCounted};
+ghost use Rattle.analyser_core.specs.States.{HasStates, merged_count, AreCounted};
 ghost use Rattle.analyser_core.specs.Told.{AreRelated, AreTold, IsTold, RelatesAt};
 
-use crate::kept::{followed, keep};
+use crate::kept::{keep, last_followers};
 use crate::point_state::state_at;
 use crate::states::{next_states, states_at};
 use affine_lift::visible_names_are_seen;
@@ -23,7 +23,7 @@ use sqlite_items::Items;
 use std::alloc::Global;
 use std::sync::ledger::Ledger;
 
-/// Each point with the relations of the states that reach it. The states at inner nodes are made node after node, told, and
+/// Each point with the relations of the states that reach it. The states at merged nodes are made node after node, told, and
 /// dropped where no node to come needs them.
 pub(crate) fn told<L: Ledger>(
     alloc: Global,
@@ -41,11 +41,11 @@ pub(crate) fn told<L: Ledger>(
     ensures told { IfOk result (AreTold program.now points.now tracked.now.names) }
     ensures count { IfOk result (λ told. length told ≡ length points.now.points) }
     ensures never_falls { steps.old ≤ steps.new }
-    ensures counts_no_more { steps.new ≤ steps.old + 64 * (program.now.width + 1) * inner_count blocks.now }
-    ensures counts_rows { IfOk result (λ told. AreCounted program.now steps.old steps.new) }
+    ensures counts_no_more { steps.new ≤ steps.old + 64 * (program.now.width + 1) * merged_count blocks.now }
+    ensures counts_rows { IfOk result (λ told. AreCounted program.now blocks.now.merging steps.old steps.new) }
 {
     points.known();
-    let table = followed(alloc, program, blocks)?;
+    let last = last_followers(alloc, program, blocks)?;
     let mut kept = Vec::new(alloc);
     let mut told = Items::new(alloc);
     for node in 0..program.nodes {
@@ -73,7 +73,7 @@ pub(crate) fn told<L: Ledger>(
             )?;
             push(&mut told, point)?;
         }
-        keep(alloc, program, blocks, &table, &mut kept, made, node)?;
+        keep(alloc, program, blocks, &last, &mut kept, made, node)?;
     }
     Ok(told)
 }

@@ -13,7 +13,7 @@ use crate::analysis::MOST_HEADS;
 use crate::certify::{certify, words_of};
 use affine_lift::lift;
 use affine_prog::Program;
-use block_program::{Blocks, contract};
+use block_program::{Blocks, contract_merged};
 use call_summaries::exits;
 use flow_points::Points;
 use frame_offsets::Offsets;
@@ -77,8 +77,8 @@ pub fn upgrade<L: Ledger>(
     }
     points.known();
     let program = lift(alloc, points, offsets, &report.tracked)?;
-    let blocks = contract(alloc, &program)?;
-    if blocks.small().nodes > MOST_HEADS {
+    let blocks = contract_merged(alloc, &program)?;
+    if blocks.simple_heads() > MOST_HEADS {
         return Err(UpgradeRefusal::Heads(MOST_HEADS));
     }
     let procedures = procedures_of(alloc, report.points.as_slice())?;

@@ -1,5 +1,5 @@
 -- When a node is inner, by the edges at it and at the node before it.
-use Rattle.std.proofs.Common.{◌≡◌, ℕ, ◌<◌, List, [], ◌∷◌, Contains, length, get_or, All, true, refl, ap, sym, subst, ◌∙◌, arith, ◌==◌}
+use Rattle.std.proofs.Common.{◌≡◌, ℕ, ◌<◌, inl, inr, List, [], ◌∷◌, Contains, length, get_or, All, true, refl, ap, sym, subst, ◌∙◌, arith, ◌==◌}
 use Rattle.std.proofs.lemmas.Bool.{eq-eqb, eqb-true}
 use Rattle.std.proofs.lemmas.List.Elements.{Contains-get_or, filter_passes}
 use Rattle.affine_prog.specs.declared.Program.{Program}
@@ -8,11 +8,15 @@ use Rattle.affine_prog.specs.declared.Kind.{Kind}
 use Rattle.affine_prog.specs.declared.Kind.TheVariants.{Do}
 use Rattle.affine_prog.specs.Programs.{edge}
 use Rattle.block_program.specs.declared.Tally.TheVariants.{One}
-use Rattle.block_program.specs.Chains.{edges_into, IsEnd}
+use Rattle.merged_heads.specs.Merges.{assigns_of}
+use Rattle.block_program.specs.InnerNodes.{edges_into, IsEnd}
 use Rattle.block_program.specs.Tallies.{IsTally}
-use Rattle.block_program.specs.EdgesInto.{IsEdgeInto, assigns_of}
-use Rattle.block_program.proofs.Lists.{filter_in}
-use Rattle.block_program.proofs.Edges.{only_member}
+use Rattle.block_program.specs.EdgesInto.{IsEdgeInto}
+use Rattle.row_modules.proofs.Laws.{nothing_contained, first_or_later}
+use Rattle.merged_heads.proofs.Lemmas.{filter_in}
+
+pub only_member : {X : Type 0} (x y : X) → Contains (y ∷ []) x → x ≡ y
+only_member x y h = elim (first_or_later y [] x h) [ inl e ↦ e | inr k ↦ absurd (nothing_contained x k) ]
 
 module _ (program : Program) (v k : ℕ) (d : Edge) (within : k < length program.edges) (into : (x : Edge) → edges_into program v ≡ get_or program.edges k x ∷ []) where
   pub is_entered : (e : Edge) → e ≡ get_or program.edges k d → e.kind ≡ Do (assigns_of e.kind) → (j : ℕ) → IsTally (λ x. x.from == e.from) program.edges (One j) → e.from < v → (IsEnd program v → ⊥) → IsEdgeInto program v k

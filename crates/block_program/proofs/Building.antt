@@ -7,7 +7,7 @@ use Rattle.row_modules.specs.Bases.{basis_length}
 use Rattle.row_modules.proofs.Laws.{first_or_later, generator, spans_more, within_from_generators}
 use Rattle.lead_basis.specs.Inserts.{IsBetween}
 use Rattle.lead_basis.proofs.Laws.{basis_rows, length_within}
-use Rattle.block_program.specs.Pushes.{CountsBases}
+use Rattle.merged_heads.specs.Pushes.{CountsBases}
 use Rattle.block_program.specs.Built.{IsBuilt}
 
 pub built_none : (before : ℕ) → IsBuilt [] [] before before

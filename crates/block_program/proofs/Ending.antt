@@ -5,7 +5,7 @@ use Rattle.std.proofs.lemmas.List.{length-set, get_or-set_same, get_or-set_other
 use Rattle.affine_prog.specs.declared.Program.{Program}
 use Rattle.affine_prog.specs.Programs.{entry_of, exit_of}
 use Rattle.block_program.specs.Ends.{AreEnds}
-use Rattle.block_program.specs.Chains.{IsEnd}
+use Rattle.block_program.specs.InnerNodes.{IsEnd}
 
 pub ends_push : (program : Program) (k : ℕ) (table : List Bool) (entry exit : ℕ) → entry ≡ entry_of program k → exit ≡ exit_of program k → entry < program.nodes → exit < program.nodes
     → AreEnds program k table → AreEnds program (k + 1) (set (set table entry true) exit true)

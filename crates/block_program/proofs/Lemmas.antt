@@ -1,5 +1,3 @@
--- The laws of block programs that crates above cite, each with variables for all that it speaks of.
-pub use Rattle.block_program.proofs.Formed.{formed}
-pub use Rattle.block_program.proofs.HeadsTell.{states_alike, exits_alike}
-pub use Rattle.block_program.proofs.PassedOn.{passed_on}
-pub use Rattle.block_program.proofs.InnerModules.{module_follows, places_few}
+-- What crates above cite of the blocks, each with variables for all that it speaks of.
+pub use Rattle.block_program.proofs.Reading.{IsStepInto, is_table, merged_at, number_at, head_at_number, head_node, none_at, step_read}
+pub use Rattle.block_program.proofs.Numbering.{not_both}

@@ -1,17 +1,22 @@
 -- Numbering the heads, node by node.
 use Rattle.std.proofs.Common.{◌≡◌, ℕ, ◌+◌, ◌≤◌, inl, inr, List, [], ◌∷◌, ◌++◌, Contains, length, get_or, sym, subst, ◌∙◌, arith}
-use Rattle.std.specs.Prelude.{Option, None, Some, MatchOption}
-use Rattle.std.proofs.lemmas.Bool.{cases_eq, cases_lt}
+use Rattle.std.specs.Prelude.{Option, None, Some, IsSome, MatchOption}
+use Rattle.std.proofs.lemmas.Bool.{cases_eq, cases_lt, false≢true}
 use Rattle.std.proofs.lemmas.List.{length_push, length-append, get_or_append_left, get_or_push}
 use Rattle.std.proofs.lemmas.List.Elements.{Contains-push, Contains-push_cases, Contains-append_left, Contains-get_or}
 use Rattle.affine_prog.specs.declared.Program.{Program}
-use Rattle.block_program.specs.Chains.{IsInner, IsHead}
-use Rattle.block_program.specs.BlockPrograms.{NumbersHeads}
+use Rattle.merged_heads.specs.declared.Merging.{Merging}
+use Rattle.merged_heads.specs.Merges.{edge_number}
+use Rattle.merged_heads.specs.Chains.{IsHead}
+use Rattle.merged_heads.specs.BlockPrograms.{NumbersHeads}
 use Rattle.block_program.specs.Numbers.{AreHeadsBelow, IsNumber, AreNumbersBelow}
 use Rattle.block_program.proofs.Tables.{table_push}
 
-module _ (program : Program) (n : ℕ) (heads : List ℕ) (h : AreHeadsBelow program n heads) where
-  pub heads_push : IsHead program n → AreHeadsBelow program (n + 1) (heads ++ n ∷ [])
+pub not_both : (o : Option ℕ) → o ≡ None → IsSome o → ⊥
+not_both o none some = subst (λ (x : Option ℕ). IsSome x → ⊥) (sym none) (λ k. false≢true k) some
+
+module _ (program : Program) (merging : Merging) (n : ℕ) (heads : List ℕ) (h : AreHeadsBelow program merging n heads) where
+  pub heads_push : IsHead program merging n → AreHeadsBelow program merging (n + 1) (heads ++ n ∷ [])
   heads_push head = record {
     order = λ k within.
         let long = length_push heads n in
@@ -28,7 +33,7 @@ module _ (program : Program) (n : ℕ) (heads : List ℕ) (h : AreHeadsBelow pro
     all = λ u. (
       λ c. elim (Contains-push_cases heads n u c) [
         | inl old ↦ let r = (h.all u).0 old in (let b = r.0 in omega arith, r.1)
-        | inr same ↦ (omega arith, subst (IsHead program) same head)
+        | inr same ↦ (omega arith, subst (IsHead program merging) same head)
       ],
       λ r. elim (cases_eq u n) [
         | inl same ↦ subst (Contains (heads ++ n ∷ [])) (sym same) (Contains-push heads n)
@@ -37,20 +42,20 @@ module _ (program : Program) (n : ℕ) (heads : List ℕ) (h : AreHeadsBelow pro
     );
   }
 
-  pub heads_stay : IsInner program n → AreHeadsBelow program (n + 1) heads
-  heads_stay inner = record {
+  pub heads_stay : IsSome (edge_number merging n) → AreHeadsBelow program merging (n + 1) heads
+  heads_stay merged = record {
     order = h.order;
     all = λ u. (
       λ c. let r = (h.all u).0 c in (let b = r.0 in omega arith, r.1),
       λ r. elim (cases_eq u n) [
-        | inl same ↦ let d = r.1 in absurd (d.not_inner (subst (IsInner program) (sym same) inner))
+        | inl same ↦ let d = r.1 in absurd (not_both (edge_number merging n) (subst (λ (i : ℕ). edge_number merging i ≡ None) same d.not_merged) merged)
         | inr other ↦ (h.all u).1 (let b = r.0 in omega (arith, other), r.1)
       ],
     );
   }
 
-pub heads_all : (program : Program) (n : ℕ) (heads : List ℕ) → program.nodes ≤ n → AreHeadsBelow program n heads → NumbersHeads program heads
-heads_all program n heads past h = record {
+pub heads_all : (program : Program) (merging : Merging) (n : ℕ) (heads : List ℕ) → program.nodes ≤ n → AreHeadsBelow program merging n heads → NumbersHeads program merging heads
+heads_all program merging n heads past h = record {
   order = h.order;
   all = λ u. (λ c. ((h.all u).0 c).1, λ d. (h.all u).1 (let b = d.node in omega arith, d));
 }
@@ -62,34 +67,34 @@ number_stays heads more v P (Some i) is = record {
   is = get_or_append_left heads more 0 i is.within ∙ is.is;
 }
 
-pub numbers_push : (program : Program) (n : ℕ) (heads : List ℕ) (table : List (Option ℕ)) (i : ℕ) → i ≡ length heads → AreNumbersBelow program n heads table
-    → AreNumbersBelow program (n + 1) (heads ++ n ∷ []) (table ++ Some i ∷ [])
-numbers_push program n heads table i is t = record {
+pub numbers_push : (merging : Merging) (n : ℕ) (heads : List ℕ) (table : List (Option ℕ)) (i : ℕ) → i ≡ length heads → AreNumbersBelow merging n heads table
+    → AreNumbersBelow merging (n + 1) (heads ++ n ∷ []) (table ++ Some i ∷ [])
+numbers_push merging n heads table i is t = record {
   long = let l = length_push table (Some i) in let m = t.long in omega arith;
-  at = table_push (λ v x. MatchOption x (IsInner program v) (IsNumber (heads ++ n ∷ []) v)) n table (Some i) t.long (λ v below. number_stays heads (n ∷ []) v (IsInner program v) _ (t.at v below))
+  at = table_push (λ v x. MatchOption x (IsSome (edge_number merging v)) (IsNumber (heads ++ n ∷ []) v)) n table (Some i) t.long (λ v below. number_stays heads (n ∷ []) v (IsSome (edge_number merging v)) _ (t.at v below))
       (record { within = let l = length_push heads n in omega arith; is = get_or_push heads n 0 i (sym is) });
 }
 
 abbrev none_of : List (Option ℕ) → Option ℕ
 none_of table = None
 
-pub numbers_skip : (program : Program) (n : ℕ) (heads : List ℕ) (table : List (Option ℕ)) → IsInner program n → AreNumbersBelow program n heads table
-    → AreNumbersBelow program (n + 1) heads (table ++ None ∷ [])
-numbers_skip program n heads table inner t = record {
+pub numbers_skip : (merging : Merging) (n : ℕ) (heads : List ℕ) (table : List (Option ℕ)) → IsSome (edge_number merging n) → AreNumbersBelow merging n heads table
+    → AreNumbersBelow merging (n + 1) heads (table ++ None ∷ [])
+numbers_skip merging n heads table merged t = record {
   long = let l = length_push table (none_of table) in let m = t.long in omega arith;
-  at = table_push (λ v x. MatchOption x (IsInner program v) (IsNumber heads v)) n table None t.long t.at inner;
+  at = table_push (λ v x. MatchOption x (IsSome (edge_number merging v)) (IsNumber heads v)) n table None t.long t.at merged;
 }
 
 -- one node more, as a record of what is kept
-abbrev pub AreNumbered : Program → ℕ → List ℕ → List (Option ℕ) → Type 0
-AreNumbered program n heads table = AreHeadsBelow program n heads × AreNumbersBelow program n heads table × (length heads ≤ n)
+abbrev pub AreNumbered : Program → Merging → ℕ → List ℕ → List (Option ℕ) → Type 0
+AreNumbered program merging n heads table = AreHeadsBelow program merging n heads × AreNumbersBelow merging n heads table × (length heads ≤ n)
 
-pub numbered_inner : (program : Program) (n : ℕ) (heads heads' : List ℕ) (table table' : List (Option ℕ)) → heads' ≡ heads → table' ≡ table ++ None ∷ [] → IsInner program n
-    → AreNumbered program n heads table → AreNumbered program (n + 1) heads' table'
-numbered_inner program n heads heads' table table' same pushed inner t =
-    rw (same, pushed) (heads_stay program n heads t.0 inner, numbers_skip program n heads table inner t.1, let l = t.2 in omega arith)
+pub numbered_merged : (program : Program) (merging : Merging) (n : ℕ) (heads heads' : List ℕ) (table table' : List (Option ℕ)) → heads' ≡ heads → table' ≡ table ++ None ∷ [] → IsSome (edge_number merging n)
+    → AreNumbered program merging n heads table → AreNumbered program merging (n + 1) heads' table'
+numbered_merged program merging n heads heads' table table' same pushed merged t =
+    rw (same, pushed) (heads_stay program merging n heads t.0 merged, numbers_skip merging n heads table merged t.1, let l = t.2 in omega arith)
 
-pub numbered_head : (program : Program) (n : ℕ) (heads heads' : List ℕ) (table table' : List (Option ℕ)) (i : ℕ) → i ≡ length heads → heads' ≡ heads ++ n ∷ [] → table' ≡ table ++ Some i ∷ [] → IsHead program n
-    → AreNumbered program n heads table → AreNumbered program (n + 1) heads' table'
-numbered_head program n heads heads' table table' i is same pushed head t =
-    rw (same, pushed) (heads_push program n heads t.0 head, numbers_push program n heads table i is t.1, let l = t.2 in let long = length_push heads n in omega arith)
+pub numbered_head : (program : Program) (merging : Merging) (n : ℕ) (heads heads' : List ℕ) (table table' : List (Option ℕ)) (i : ℕ) → i ≡ length heads → heads' ≡ heads ++ n ∷ [] → table' ≡ table ++ Some i ∷ [] → IsHead program merging n
+    → AreNumbered program merging n heads table → AreNumbered program merging (n + 1) heads' table'
+numbered_head program merging n heads heads' table table' i is same pushed head t =
+    rw (same, pushed) (heads_push program merging n heads t.0 head, numbers_push merging n heads table i is t.1, let l = t.2 in let long = length_push heads n in omega arith)

@@ -4,7 +4,7 @@ use Rattle.std.specs.Prelude.{Option, None, MatchOption, slice_index_or}
 use Rattle.std.proofs.lemmas.Bool.{cases_eq}
 use Rattle.std.proofs.lemmas.List.{length_push, get_or_append_left, get_or_push}
 use Rattle.affine_prog.specs.declared.Program.{Program}
-use Rattle.block_program.specs.Chains.{IsInner}
+use Rattle.block_program.specs.InnerNodes.{IsInner}
 use Rattle.block_program.specs.EdgesInto.{IsEdgeInto, AreEdgesIntoBelow}
 
 -- what holds of each item holds of one more

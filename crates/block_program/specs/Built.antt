@@ -4,7 +4,7 @@
 --                                     at most its length
 use Rattle.std.specs.Prelude.{ℕ, ◌+◌, ◌≤◌, List, length, Contains}
 use Rattle.row_modules.specs.Bases.{basis_length}
-use Rattle.block_program.specs.Pushes.{IsBasisOf}
+use Rattle.merged_heads.specs.Pushes.{IsBasisOf}
 
 pub record IsBuilt (rows basis : List (List ℕ)) (before after : ℕ) : Type 0 where
   pub of_rows : IsBasisOf (Contains rows) basis

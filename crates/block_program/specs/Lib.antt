@@ -1,12 +1,7 @@
-pub mod Chains
-pub mod BlockPrograms
-pub mod Laws
-pub mod HeadLaws
+pub mod InnerNodes
 pub mod Tallies
 pub mod EdgesInto
 pub mod Contractions
 pub mod Numbers
 pub mod Ends
-pub mod Pushes
-pub mod InnerLaws
 pub mod Built

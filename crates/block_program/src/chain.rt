@@ -1,12 +1,14 @@
-//! The chain of inner nodes behind a node.
+//! The chain of merged nodes behind a node.
 
 ghost use Rattle.std.specs.Prelude.{◌≡◌, ◌<◌, ◌++◌, All, length, IfOk, OnOk};
 ghost use Rattle.affine_prog.specs.Programs.{IsWellFormed};
-ghost use Rattle.block_program.specs.Chains.{Chain};
-ghost use Rattle.block_program.specs.BlockPrograms.{behind};
-ghost use Rattle.block_program.specs.EdgesInto.{AreEdgesInto, assigns_behind, assigns_of};
+ghost use Rattle.merged_heads.specs.Merges.{IsMergedTable};
+ghost use Rattle.merged_heads.specs.Chains.{Chain};
+ghost use Rattle.merged_heads.specs.BlockPrograms.{behind};
+ghost use Rattle.block_program.specs.EdgesInto.{assigns_behind};
 
 use affine_prog::{Assign, Kind, Program};
+use merged_heads::{Merging, assigns_of};
 use sqlite_items::Items;
 use std::alloc::{AllocError, Global};
 
@@ -14,15 +16,16 @@ use std::alloc::{AllocError, Global};
 pub(crate) fn behind(
     alloc: Global,
     program: &Program,
-    edges_into: &[Option<u32>],
+    merging: &Merging,
     node: u32,
 ) -> Result<(u32, Vec<u32>), AllocError>
     requires formed { IsWellFormed program.now }
-    requires edges_into { AreEdgesInto program.now edges_into.now }
+    requires merged { IsMergedTable program.now merging.now }
     requires node { node < program.now.nodes }
-    ensures leads { IfOk result (λ r. Chain program.now r.0 node (assigns_behind program.now.edges r.1.items)) }
+    ensures leads { IfOk result (λ r. Chain program.now merging.now r.0 node (assigns_behind program.now.edges r.1.items)) }
     ensures edges { IfOk result (λ r. All (λ k. k < length program.now.edges) r.1.items) }
 {
+    let edges_into = merging.edges_into.as_slice();
     let mut path = Vec::new(alloc);
     let mut at = node;
     while let Some(k) = edges_into[at as usize] {
@@ -40,16 +43,6 @@ fn push_all(made: &mut Items<Assign>, more: &[Assign]) -> Result<(), AllocError>
         made.push(*assign)?;
     }
     Ok(())
-}
-
-/// The assignments of a kind.
-pub(crate) fn assigns_of(kind: &Kind) -> &[Assign]
-    ensures { result.now ≡ assigns_of kind.now }
-{
-    match kind {
-        Kind::Do(assigns) => assigns.as_slice(),
-        Kind::Call { before, .. } => before.as_slice(),
-    }
 }
 
 /// What the edges of a chain assign, the last edge given first, and then these assignments.

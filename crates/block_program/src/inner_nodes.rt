@@ -1,19 +1,20 @@
 //! Which nodes are inner.
 
-ghost use Rattle.std.specs.Prelude.{◌≡◌, ℕ, ◌^◌, ◌<◌, ◌↔◌, length, slice_index_or, IsTrue, MatchOption, IfOk};
+ghost use Rattle.std.specs.Prelude.{◌≡◌, ◌<◌, ◌↔◌, length, IsTrue, MatchOption, IfOk};
 ghost use Rattle.affine_prog.specs.Programs.{IsWellFormed};
 ghost use Rattle.affine_prog.specs.declared.Kind.TheVariants.{Do};
 ghost use Rattle.block_program.specs.declared.Tally.TheVariants.{One};
-ghost use Rattle.block_program.specs.Chains.{IsEnd, IsInner};
+ghost use Rattle.block_program.specs.InnerNodes.{IsEnd, IsInner};
 ghost use Rattle.block_program.specs.Tallies.{AreTallies, number_of};
-ghost use Rattle.block_program.specs.BlockPrograms.{NumbersHeads};
-ghost use Rattle.block_program.specs.Numbers.{AreNumbersBelow};
 ghost use Rattle.block_program.specs.Ends.{AreEnds};
-ghost use Rattle.block_program.specs.EdgesInto.{IsEdgeInto, AreEdgesInto, assigns_of};
+ghost use Rattle.block_program.specs.EdgesInto.{IsEdgeInto, AreEdgesInto, AreOwnClasses, IsSimpleTable};
+ghost use Rattle.merged_heads.specs.Merges.{assigns_of};
 
 use crate::Tally;
 use crate::tallies::{Side, tallies};
 use affine_prog::{Kind, Program};
+use merged_heads::Merging;
+use sqlite_items::Items;
 use std::alloc::{AllocError, Global};
 
 /// Whether a kind calls nothing.
@@ -98,27 +99,26 @@ pub(crate) fn inner_edges(alloc: Global, program: &Program) -> Result<Vec<Option
     Ok(table)
 }
 
-/// The heads in their order, and for each node its number among them.
-pub(crate) fn number_heads(
-    alloc: Global,
-    program: &Program,
-    edges_into: &[Option<u32>],
-) -> Result<(Vec<u32>, Vec<Option<u32>>), AllocError>
-    requires { AreEdgesInto program.now edges_into.now }
-    ensures heads { IfOk result (λ r. NumbersHeads program.now r.0.items) }
-    ensures numbers { IfOk result (λ r. AreNumbersBelow program.now program.now.nodes r.0.items r.1.items) }
-    ensures count { IfOk result (λ r. length r.0.items < 2 ^ 32) }
+/// Each node by itself.
+fn own_classes(alloc: Global, nodes: u32) -> Result<Vec<u32>, AllocError>
+    ensures { IfOk result (λ classes. AreOwnClasses nodes classes.items) }
 {
-    let mut heads = Vec::new(alloc);
-    let mut numbers = Vec::new(alloc);
-    for node in 0..program.nodes {
-        match edges_into[node as usize] {
-            Some(_) => numbers.push(None)?,
-            None => {
-                numbers.push(Some(heads.len() as u32))?;
-                heads.push(node)?;
-            }
-        }
+    let mut classes = Vec::new(alloc);
+    for node in 0..nodes {
+        classes.push(node)?;
     }
-    Ok((heads, numbers))
+    Ok(classes)
+}
+
+/// The table in which the inner nodes are merged.
+pub(crate) fn simple_table(alloc: Global, program: &Program) -> Result<Merging, AllocError>
+    requires { IsWellFormed program.now }
+    ensures { IfOk result (IsSimpleTable program.now) }
+{
+    let edges_into = inner_edges(alloc, program)?;
+    let classes = own_classes(alloc, program.nodes)?;
+    Ok(Merging {
+        edges_into: Items::from_vec(edges_into),
+        classes: Items::from_vec(classes),
+    })
 }

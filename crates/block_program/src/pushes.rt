@@ -8,13 +8,13 @@ ghost use Rattle.map_modules.specs.Matrices.{apply};
 ghost use Rattle.affine_prog.specs.declared.Kind.TheVariants.{Do};
 ghost use Rattle.affine_prog.specs.Assignments.{position_of};
 ghost use Rattle.row_images.specs.States.{Spans, IsMatrixOf};
-ghost use Rattle.block_program.specs.EdgesInto.{assigns_of};
-ghost use Rattle.block_program.specs.Pushes.{MakesOf, CountsBases};
+ghost use Rattle.merged_heads.specs.Merges.{assigns_of};
+ghost use Rattle.merged_heads.specs.Pushes.{MakesOf, CountsBases};
 ghost use Rattle.block_program.specs.Built.{IsBuilt};
 
-use crate::chain::assigns_of;
 use affine_prog::{Assign, Edge};
 use lead_basis::{Basis, Memory, Steps};
+use merged_heads::assigns_of;
 use row_images::images;
 use sqlite_items::Items;
 use std::alloc::Global;

@@ -8,12 +8,13 @@
 //! and [`merged_table`] searches for a table and gives it where it passes. `specs/BlockPrograms` defines the program of the
 //! heads alone, in which the assignments of a chain stand before those of the edge behind it; `laws` has what holds of every
 //! right table: at each head the maps of the level paths and the states of the open paths are the same in both programs, and
-//! what comes to a merged node is what its edge makes of what comes to its parent. Inner nodes, the narrower notion by which
-//! the analysis goes and heads are counted, stand in `block_program`, which also makes the program of their heads.
+//! what comes to a merged node is what its edge makes of what comes to its parent. The block program is made in
+//! `block_program`.
 //!
 //! ```text
-//! if let Some(table) = merged_table(alloc, &program)? {
-//!     let is_head = table.edges_into.as_slice()[node].is_none();
+//! match merged_table(alloc, &program)? {
+//!     Some(merging) => blocks_by(merging),
+//!     None => blocks_by(simple_table(alloc, &program)?),
 //! }
 //! ```
 #![tactic(auto)]

@@ -16,7 +16,7 @@ use crate::reports::NarrowReport;
 use affine_lift::lift_narrow;
 use affine_prog::Program;
 use analyser_core::{MOST_HEADS, Refusal};
-use block_program::{Blocks, contract};
+use block_program::{Blocks, contract_merged};
 use call_summaries::exits;
 use flow_points::Points;
 use frame_offsets::offsets;
@@ -88,8 +88,8 @@ fn report_of<L: Ledger>(
 {
     let offsets = offsets(alloc, points)?;
     let program = lift_narrow(alloc, points, &offsets, &tracked)?;
-    let blocks = contract(alloc, &program)?;
-    if blocks.small().nodes > MOST_HEADS {
+    let blocks = contract_merged(alloc, &program)?;
+    if blocks.simple_heads() > MOST_HEADS {
         return Err(Refusal::Heads(MOST_HEADS));
     }
     let report = report_by(alloc, points, tracked, &program, &blocks, steps)?;
@@ -108,7 +108,7 @@ fn report_by<L: Ledger>(
     requires lifted { IsLiftedBy Narrow points.now tracked.names program.now }
     requires formed { IsWellFormed program.now }
     requires blocks { AreBlocks program.now blocks.now }
-    requires few { blocks.now.small.nodes ≤ most_heads }
+    requires few { blocks.now.simple_heads ≤ most_heads }
     ensures { IfOk result (IsNarrowMade points.now tracked.names) }
 {
     let small = blocks.small();

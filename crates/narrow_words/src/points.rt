@@ -10,7 +10,7 @@ ghost use Rattle.analyser_core.specs.States.{HasStates};
 ghost use Rattle.narrow_words.specs.Made.{AreNarrowTold, IsNarrowTold};
 
 use affine_prog::{Program, paths_keep_states, relations_annihilate_states};
-use analyser_core::{followed, keep, next_states, states_at, visible_at};
+use analyser_core::{keep, last_followers, next_states, states_at, visible_at};
 use block_program::Blocks;
 use flow_points::Points;
 use lead_basis::{Basis, Memory, Steps};
@@ -21,7 +21,7 @@ use sqlite_items::Items;
 use std::alloc::Global;
 use std::sync::ledger::Ledger;
 
-/// Each point with what holds modulo 2^32 of the states that reach it. The states at inner nodes are made node after node,
+/// Each point with what holds modulo 2^32 of the states that reach it. The states at merged nodes are made node after node,
 /// told, and dropped where no node to come needs them.
 pub(crate) fn narrow_points<L: Ledger>(
     alloc: Global,
@@ -40,7 +40,7 @@ pub(crate) fn narrow_points<L: Ledger>(
     ensures count { IfOk result (λ told. length told ≡ length points.now.points) }
 {
     points.known();
-    let table = followed(alloc, program, blocks)?;
+    let last = last_followers(alloc, program, blocks)?;
     let mut kept = Vec::new(alloc);
     let mut told = Items::new(alloc);
     for node in 0..program.nodes {
@@ -59,7 +59,7 @@ pub(crate) fn narrow_points<L: Ledger>(
             let point = narrow_point(alloc, points, tracked, program, states, node)?;
             push(&mut told, point)?;
         }
-        keep(alloc, program, blocks, &table, &mut kept, made, node)?;
+        keep(alloc, program, blocks, &last, &mut kept, made, node)?;
     }
     Ok(told)
 }

@@ -5,8 +5,7 @@ use Rattle.std.proofs.lemmas.Bool.{cases_eq, cases_lt}
 use Rattle.std.proofs.lemmas.List.Elements.{Contains-append_right, Contains-get_or}
 use Rattle.flow_points.proofs.Cited.{cons_cases}
 use Rattle.affine_prog.specs.declared.Program.{Program}
-use Rattle.block_program.specs.Chains.{IsHead, IsInner}
-use Rattle.block_program.specs.BlockPrograms.{NumbersHeads}
+use Rattle.block_program.specs.InnerNodes.{IsHead, IsInner, NumbersHeads}
 use Rattle.analyser_core.specs.Heads.{HasFewHeads, HasManyHeads, most_heads}
 use Rattle.never_neither.proofs.Deciding.{decide}
 

@@ -10,7 +10,7 @@ use Rattle.affine_prog.specs.declared.Program.{Program}
 use Rattle.affine_lift.specs.Lifting.{IsLifted}
 use Rattle.affine_lift.specs.Tracking.{IsTracked, IsTrackRefusal, Scope, scope_of}
 use Rattle.affine_lift.proofs.OneProgram.{one_program}
-use Rattle.block_program.specs.BlockPrograms.{NumbersHeads}
+use Rattle.block_program.specs.InnerNodes.{NumbersHeads}
 use Rattle.refusals.specs.declared.track.TrackRefusal.{TrackRefusal}
 use Rattle.refusals.specs.declared.track.TrackRefusal.TheVariants as tracks
 use Rattle.report_text.specs.declared.names.Name.{Name}

@@ -21,10 +21,11 @@ use Rattle.affine_prog.specs.Relations.{Holds}
 use Rattle.affine_prog.specs.Laws.{linear_call_map}
 use Rattle.affine_prog.specs.Spans.{rows_at, IsMapTo, IsStateAt, AreLevels}
 use Rattle.affine_prog.proofs.Lemmas.{step_is_linear, call_map-affine, call_of_callees, call_of_callers, level_map, registers_below}
-use Rattle.block_program.specs.Chains.{Chain}
-use Rattle.block_program.specs.BlockPrograms.{IsBlockProgram}
-use Rattle.block_program.specs.Laws.{OpenPathsAlongChains}
-use Rattle.block_program.proofs.Lemmas.{formed}
+use Rattle.merged_heads.specs.declared.Merging.{Merging}
+use Rattle.merged_heads.specs.Chains.{Chain}
+use Rattle.merged_heads.specs.BlockPrograms.{IsBlockProgram}
+use Rattle.merged_heads.specs.Laws.{OpenPathsAlongChains}
+use Rattle.merged_heads.proofs.Lemmas.{formed}
 use Rattle.proof_rules.specs.Simple.{IsSimple, IsSimpleStep, IsSimpleOpening}
 use Rattle.proof_rules.specs.Rules.{InLevels, InEntries, rule_6, PassRules}
 use Rattle.proof_rules.specs.Laws.{AreRowLists}
@@ -152,24 +153,24 @@ module _ (small : Program) (w : IsWellFormed small) (levels entries : List (List
     enters = entry_passes;
   }
 
-module _ (program : Program) (w : IsWellFormed program) (heads : List ℕ) (small : Program) (blocks : IsBlockProgram program heads small) (along : OpenPathsAlongChains)
+module _ (program : Program) (w : IsWellFormed program) (table : Merging) (heads : List ℕ) (small : Program) (blocks : IsBlockProgram program table heads small) (along : OpenPathsAlongChains)
     (levels entries : List (List (List ℕ))) (level_rows : AreRowLists 289 levels) (entry_rows : AreRowLists 17 entries)
     (exact_levels : AreLevels small levels) (exact_entries : AreEntries small entries) where
   start_back : (v : List ℕ) → Start small v → Start program v
   start_back v s = record { state = s.state; registers = subst (λ (r : ℕ). IsZeroOutside (with_constant r) v) blocks.registers s.registers }
 
-  pub claim_passes : (i u : ℕ) (chain : List Assign) (a : List ℕ) → i < length heads → Chain program (slice_index heads i) u chain → Holds program u a
+  pub claim_passes : (i u : ℕ) (chain : List Assign) (a : List ℕ) → i < length heads → Chain program table (slice_index heads i) u chain → Holds program u a
       → rule_6 levels entries i (owner_of program u) chain a
   claim_passes i u chain a within leads holds m n s h (words, simple, is) g =
-      let own : owner_of small i ≡ owner_of program u = owner_alike program w heads small blocks i within ∙ chain_owner program w (slice_index heads i) u chain leads in
+      let own : owner_of small i ≡ owner_of program u = owner_alike program w table heads small blocks i within ∙ chain_owner program w table (slice_index heads i) u chain leads in
       let below : i < small.nodes = let e = blocks.nodes in omega arith in
-      let solved = all_states small (formed program heads small w blocks) levels entries level_rows entry_rows exact_levels exact_entries i below chain words
+      let solved = all_states small (formed program table heads small w blocks) levels entries level_rows entry_rows exact_levels exact_entries i below chain words
       (Solutions 17 (λ b. b ≡ a)) (solutions_are_module 17 (λ b. b ≡ a))
       (λ x at. record {
         row = IsRow-vector _;
         zero_at = λ f same. ap (λ b. dot b (apply (matrix_of chain words) x)) same
             ∙ holds.zero at.start (apply (matrix_of chain words) x) (start_back at.start at.is_start)
-            ((along program heads small w blocks at.start i u chain (apply (matrix_of chain words) x) within leads).1
+            ((along program table heads small w blocks at.start i u chain (apply (matrix_of chain words) x) within leads).1
             (record { words = words; first = x; choice = simple_choice (unknown_count chain) words simple; path = at.path; state = refl }));
       }) m s h (subst (λ k. Contains (rows_at entries k) s) (sym own) g) in
       ap (λ x. dot a (apply x s)) is ∙ solved.zero_at a refl

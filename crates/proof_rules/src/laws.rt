@@ -4,7 +4,7 @@ ghost use Rattle.proof_rules.specs.Laws.{ClaimsHold, ConstantIsNowhereZero, Leve
 ghost use Rattle.proof_rules.specs.Exact.{ExactRowsPass, WhatHoldsIsClaimed};
 ghost use Rattle.proof_rules.specs.Alike.{RulesFollowModules};
 
-use block_program::open_paths_are_kept;
+use merged_heads::open_paths_are_kept;
 
 /// Where the rules hold, the map of each level path is a combination of the rows at its end.
 pub fn level_maps_are_in()

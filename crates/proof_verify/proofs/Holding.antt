@@ -7,8 +7,10 @@ use Rattle.affine_prog.specs.declared.Kind.TheVariants.{Do, Call}
 use Rattle.affine_prog.specs.declared.Assign.{Assign}
 use Rattle.affine_prog.specs.Programs.{edge, IsWellFormed}
 use Rattle.block_program.specs.Contractions.{Contraction}
-use Rattle.block_program.specs.Chains.{Chain, here, after}
-use Rattle.block_program.specs.Laws.{OpenPathsAlongChains}
+use Rattle.merged_heads.specs.declared.Merging.{Merging}
+use Rattle.merged_heads.specs.Chains.{Chain, here, after}
+use Rattle.merged_heads.specs.Laws.{OpenPathsAlongChains}
+use Rattle.block_program.proofs.Lemmas.{number_at}
 use Rattle.block_program.specs.Numbers.{AreBlocks}
 use Rattle.proof_rules.specs.Rules.{PassRules}
 use Rattle.proof_rules.specs.Laws.{AreRowLists}
@@ -16,7 +18,6 @@ use Rattle.proof_rules.proofs.Lemmas.{claim_holds}
 use Rattle.proof_verify.specs.declared.Claim.{Claim}
 use Rattle.proof_verify.specs.Items.{nth_edge, step_rule, call_rule, entry_rule}
 use Rattle.proof_verify.specs.Verdicts.{sheet, AllPass, PassEntries, ClaimPasses, nth_claim, ClaimsHoldAt}
-use Rattle.proof_verify.proofs.Placing.{number_at}
 
 -- an edge of the program by its number
 module _ (small : Program) (P : Edge → Type 0) (all : AllPass (length small.edges) (λ k. P (nth_edge small k))) where
@@ -32,9 +33,9 @@ pass_rules small levels entries pass = record {
   enters = λ u v q before contains. each_edge small (entry_rule small levels entries) pass.1 (edge u v (Call q before)) contains;
 }
 
-chain_node : (program : Program) (h u : ℕ) (chain : List Assign) → Chain program h u chain → h < program.nodes
-chain_node program h u chain (here h' u' chain' head same none) = head.node
-chain_node program h v more (after h' u v' chain assigns more' leads inner contains is) = chain_node program h u chain leads
+chain_node : (program : Program) (table : Merging) (h u : ℕ) (chain : List Assign) → Chain program table h u chain → h < program.nodes
+chain_node program table h u chain (here h' u' chain' head same none) = head.node
+chain_node program table h v more (after h' u v' chain assigns more' leads inner contains is) = chain_node program table h u chain leads
 
 module _ (program : Program) (w : IsWellFormed program) (blocks : Contraction) (b : AreBlocks program blocks) (levels entries : List (List (List ℕ)))
     (level_rows : AreRowLists 289 levels) (entry_rows : AreRowLists 17 entries) (along : OpenPathsAlongChains) where
@@ -45,12 +46,12 @@ module _ (program : Program) (w : IsWellFormed program) (blocks : Contraction) (
       let claim = get_or claims k d in let u = claim.node in
       let passes = subst (ClaimPasses program blocks levels entries) (get_or_default claims k none d below) (all k below) in
       let p = passes.place in
-      let n = number_at program w blocks b p.node p.head (chain_node program p.node u p.chain p.leads) p.number in
-      claim_holds program w b.heads blocks.small b.small along levels entries level_rows entry_rows (pass_rules blocks.small levels entries pass) u (get_or claim.rows j e) (record {
+      let n = number_at program w blocks b p.node p.head (chain_node program blocks.merging p.node u p.chain p.leads) p.number in
+      claim_holds program w blocks.merging b.heads blocks.small b.small along levels entries level_rows entry_rows (pass_rules blocks.small levels entries pass) u (get_or claim.rows j e) (record {
         row = on;
         head = p.head;
         within = n.within;
         chain = p.chain;
-        leads = subst (λ (h : ℕ). Chain program h u p.chain) (sym n.is) p.leads;
+        leads = subst (λ (h : ℕ). Chain program blocks.merging h u p.chain) (sym n.is) p.leads;
         zero = passes.zero j e within;
       })

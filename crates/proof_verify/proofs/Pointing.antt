@@ -14,7 +14,7 @@ use Rattle.affine_prog.specs.LevelPaths.{step_map}
 use Rattle.affine_prog.specs.Spans.{rows_at}
 use Rattle.affine_prog.proofs.Lemmas.{ArePlaced}
 use Rattle.affine_prog.proofs.Lemmas.{matrix_of-append, Choice-append, Choice-parts}
-use Rattle.block_program.specs.Pushes.{MakesOf}
+use Rattle.merged_heads.specs.Pushes.{MakesOf}
 use Rattle.proof_rules.specs.Rules.{rule_6}
 use Rattle.proof_rules.specs.Laws.{AreRowLists}
 use Rattle.proof_rules.proofs.Lemmas.{simple_choice, applied}

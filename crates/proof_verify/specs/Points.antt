@@ -18,7 +18,7 @@ use Rattle.affine_prog.specs.Programs.{owner_of}
 use Rattle.affine_prog.specs.Assignments.{Choice}
 use Rattle.affine_prog.specs.LevelPaths.{step_map}
 use Rattle.affine_prog.specs.Spans.{rows_at}
-use Rattle.block_program.specs.Chains.{Chain}
+use Rattle.merged_heads.specs.Chains.{Chain}
 use Rattle.block_program.specs.Contractions.{Contraction}
 use Rattle.block_program.specs.Numbers.{number_of}
 
@@ -47,7 +47,7 @@ pub record IsPlaced (program : Program) (blocks : Contraction) (u : ℕ) : Type 
   pub head : ℕ
   pub number : number_of blocks node ≡ Some head
   pub chain : List Assign
-  pub leads : Chain program node u chain
+  pub leads : Chain program blocks.merging node u chain
 
 pub record HasStatesAt (program : Program) (blocks : Contraction) (levels entries : List (List (List ℕ))) (u : ℕ) (rows : List (List ℕ)) : Type 0 where
   pub place : IsPlaced program blocks u

@@ -11,9 +11,10 @@ ghost use Rattle.proof_verify.specs.Verdicts.{ClaimPasses, nth_claim};
 use crate::Claim;
 use crate::lookups::basis_at;
 use affine_prog::Program;
-use block_program::{Blocks, inner_nodes_follow};
+use block_program::Blocks;
 use lead_basis::Basis;
 use map_modules::MatBasis;
+use merged_heads::merged_nodes_follow;
 use word_rows::Row;
 
 // Whether a form is 0 on each state.
@@ -46,7 +47,7 @@ fn claim_passes(
     requires node { claim.now.node < program.now.nodes }
     ensures { IsTrue result ↔ ClaimPasses program.now blocks.now levels.now entries.now claim.now }
 {
-    inner_nodes_follow();
+    merged_nodes_follow();
     let rows = basis_at(states, claim.node as usize).rows();
     all_vanish(claim.rows.as_slice(), rows)
 }

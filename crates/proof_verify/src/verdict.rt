@@ -16,9 +16,10 @@ use crate::points::states_of;
 use crate::starts::starts_into;
 use crate::{Breach, Claim};
 use affine_prog::Program;
-use block_program::{Blocks, block_programs_are_formed, open_paths_are_kept};
+use block_program::Blocks;
 use lead_basis::{Basis, Memory, Steps};
 use map_modules::MatBasis;
+use merged_heads::{block_programs_are_formed, open_paths_are_kept};
 use std::alloc::Global;
 use std::sync::ledger::Ledger;
 

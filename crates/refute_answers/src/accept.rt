@@ -56,7 +56,7 @@ pub(crate) fn program_of(
     let offsets = offsets(alloc, points)?;
     let program = lift(alloc, points, &offsets, tracked)?;
     let blocks = contract(alloc, &program)?;
-    if blocks.small().nodes > MOST_HEADS {
+    if blocks.simple_heads() > MOST_HEADS {
         return Err(Refusal::Heads(MOST_HEADS));
     }
     Ok(program)

@@ -4,7 +4,7 @@ ghost use Rattle.std.specs.Prelude.{◌≡◌, length};
 
 use crate::small_programs::{EdgePlan, LOOP, Plan, program};
 use affine_prog::{Proc, well_formed};
-use block_program::{Blocks, contract};
+use block_program::{Blocks, contract, contract_merged};
 use lead_basis::Memory;
 use std::alloc::Global;
 
@@ -78,7 +78,17 @@ fn has_edges(blocks: &Blocks, ends: &[(u32, u32)]) -> bool {
     true
 }
 
-/// Whether these nodes are the heads, and these the edges between their numbers.
+/// Whether these nodes are the heads, and these the edges between their numbers; and that many there are by the simple notion.
+fn are(blocks: &Blocks, nodes: u32, heads: &[u32], ends: &[(u32, u32)], simple: u32) -> bool
+    requires { length blocks.now.numbers ≡ nodes }
+{
+    has_heads(blocks, nodes, heads)
+        && blocks.small().nodes as usize == heads.len()
+        && has_edges(blocks, ends)
+        && blocks.simple_heads() == simple
+}
+
+/// Whether these are the heads and edges by the simple notion.
 fn contracts_to(
     alloc: Global,
     plan: &Plan,
@@ -92,11 +102,25 @@ fn contracts_to(
         return Ok(false);
     }
     let blocks = contract(alloc, &program)?;
-    Ok(
-        has_heads(&blocks, program.nodes, heads)
-            && blocks.small().nodes as usize == heads.len()
-            && has_edges(&blocks, ends),
-    )
+    Ok(are(&blocks, program.nodes, heads, ends, blocks.small().nodes))
+}
+
+/// Whether these are the heads and edges where nodes are merged, and that many the heads by the simple notion.
+fn merges_to(
+    alloc: Global,
+    plan: &Plan,
+    heads: &[u32],
+    ends: &[(u32, u32)],
+    simple: u32,
+) -> Result<bool, Memory> {
+    let Ok(program) = program(alloc, plan) else {
+        return Err(Memory);
+    };
+    if !well_formed(&program) {
+        return Ok(false);
+    }
+    let blocks = contract_merged(alloc, &program)?;
+    Ok(are(&blocks, program.nodes, heads, ends, simple))
 }
 
 #[test]
@@ -104,10 +128,12 @@ fn heads_are_entries_exits_and_ends_of_calls(rt: HostRuntime) {
     let heads = [0, 4, 5, 10, 15, 17, 18, 19];
     let ends = [(3, 6), (4, 7), (0, 1), (2, 3)];
     assert!(rt; contracts_to(rt.alloc(), &TWO_CALLS, &heads, &ends) == Ok(true));
+    assert!(rt; merges_to(rt.alloc(), &TWO_CALLS, &heads, &ends, 8) == Ok(true));
 }
 
 #[test]
 fn a_chain_is_one_edge(rt: HostRuntime) {
     let ends = [(0, 1), (1, 2), (1, 1)];
     assert!(rt; contracts_to(rt.alloc(), &LOOP, &[0, 1, 3, 4], &ends) == Ok(true));
+    assert!(rt; merges_to(rt.alloc(), &LOOP, &[0, 1, 4], &[(0, 1), (1, 1)], 4) == Ok(true));
 }

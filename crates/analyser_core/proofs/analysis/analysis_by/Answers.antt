@@ -1,23 +1,23 @@
 use Rattle.std.proofs.Common.{refl, arith}
 use Rattle.std.proofs.lemmas.Grind.{merely}
 use Rattle.std.proofs.lemmas.List.Elements.{Contains-get_or}
-use Rattle.block_program.proofs.Lemmas.{formed, exits_alike}
+use Rattle.merged_heads.proofs.Lemmas.{formed, exits_alike}
 use Rattle.analyser_core.proofs.PointsTold.{told_ascend, told_rows, told_each}
 use Rattle.analyser_core.proofs.WordsTold.{certs_told}
 use Rattle.analyser_core.proofs.Worked.{within_bound, states_of_heads, summaries_alone, rows_of_states}
 use Rattle.analyser_core.proofs.analysis.analysis_by.Goals as goal
 
 pub exits-requires : goal.exits-requires
-exits-requires g c = let b = c.requires.blocks in rw c.small-small.ensures (formed c.args.program.now b.heads c.args.blocks.now.small c.requires.formed b.small)
+exits-requires g c = let b = c.requires.blocks in rw c.small-small.ensures (formed c.args.program.now c.args.blocks.now.merging b.heads c.args.blocks.now.small c.requires.formed b.small)
 
 pub reach_by_exits-requires-clause-formed : goal.reach_by_exits-requires-clause-formed
-reach_by_exits-requires-clause-formed g c = let b = c.requires.blocks in rw c.small-small.ensures (formed c.args.program.now b.heads c.args.blocks.now.small c.requires.formed b.small)
+reach_by_exits-requires-clause-formed g c = let b = c.requires.blocks in rw c.small-small.ensures (formed c.args.program.now c.args.blocks.now.merging b.heads c.args.blocks.now.small c.requires.formed b.small)
 
 pub certify-requires-clause-exits : goal.certify-requires-clause-exits
 certify-requires-clause-exits g c =
     let b = c.requires.blocks in
     rw c.bases-2.ensures
-    (exits_alike c.args.program.now b.heads c.args.blocks.now.small c.requires.formed b.small c.in_ok-exits.exits (rw c.small-small.ensures at c.in_ok-exits.ensures.exact))
+    (exits_alike c.args.program.now c.args.blocks.now.merging b.heads c.args.blocks.now.small c.requires.formed b.small c.in_ok-exits.exits (rw c.small-small.ensures at c.in_ok-exits.ensures.exact))
 
 pub certify-requires-clause-within : goal.certify-requires-clause-within
 certify-requires-clause-within g c = rw c.procedures.ensures (λ k d below. Contains-get_or c.args.points.now.procedures k d below)
@@ -72,11 +72,11 @@ pub returns-clause-made : goal.returns-clause-made
 returns-clause-made g c =
     let program = c.args.program.now in
     let b = c.requires.blocks in
-    let s = b.small in
+    let s = b.simple in
     record {
       program = program;
       lifted = c.requires.lifted;
-      few_heads = record { heads = b.heads; numbers = s.numbers; few = omega (arith, c.requires.few, s.nodes) };
+      few_heads = record { heads = s.simple; numbers = s.are; few = omega (arith, c.requires.few, s.counted) };
       is_report = record {
         version_is = refl;
         certified = rw c.procedures.ensures at c.in_ok-certs.ensures;
@@ -86,11 +86,11 @@ returns-clause-made g c =
         told = λ u code point at is. told_each program c.args.points.now c.args.tracked.names c.in_ok-points.points c.in_ok-points.ensures.told u code point at is;
       };
       rows = λ lists are bases.
-          let inner = c.in_ok-points.ensures.counts_rows in
-          let e = rows_of_states program c.requires.formed c.args.blocks.now b lists c.in_ok-reached.reached inner.inner are bases
-          (rw c.small-small.ensures at c.in_ok-reached.ensures.exact) c.known_states.ensures inner.states in
+          let counts = c.in_ok-points.ensures.counts_rows in
+          let e = rows_of_states program c.requires.formed c.args.blocks.now b lists c.in_ok-reached.reached counts.merged are bases
+          (rw c.small-small.ensures at c.in_ok-reached.ensures.exact) c.known_states.ensures counts.states in
           let counted = c.in_ok-reached.ensures.counts_rows in
-          let rows = inner.rows in
+          let rows = counts.rows in
           let falls = c.exits.ensures.never_falls in
           omega (arith, e, counted, rows, falls);
     }

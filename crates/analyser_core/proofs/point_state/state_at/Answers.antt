@@ -4,6 +4,7 @@ use Rattle.std.proofs.lemmas.Result.{IfOk-weaker}
 use Rattle.row_modules.proofs.Laws.{constant_is_in}
 use Rattle.affine_prog.specs.Programs.{owner_of, visible_in}
 use Rattle.analyser_core.specs.Told.{told_positions, Relates, RelatesAt}
+use Rattle.block_program.proofs.Lemmas.{is_table}
 use Rattle.analyser_core.proofs.Passed.{passed_related, relates_at}
 use Rattle.analyser_core.proofs.point_state.state_at.Goals as goal
 
@@ -18,7 +19,8 @@ returns-in-Some c =
     let passes = c.in-Some.ensures in
     let point = get_or told from c.index-told-from.result in
     let at : slice_get told from ≡ Some point = slice_get-get_or told from c.index-told-from.result (omega (arith, passes.below, c.requires.count)) in
-    let related = passed_related program c.requires.formed from c.args.node passes point.state (c.requires.told from point at) in
+    let related = passed_related program c.requires.formed c.args.blocks.now.merging (is_table program c.requires.formed c.args.blocks.now c.requires.blocks) from c.args.node
+    c.requires.node passes point.state (c.requires.told from point at) in
     IfOk-weaker c.copy_of.result (λ copy. copy ≡ point.state) _ (λ copy same. rw same related) c.copy_of.ensures
 
 pub returns-in-None : goal.returns-in-None

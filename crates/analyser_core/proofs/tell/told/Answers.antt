@@ -1,7 +1,6 @@
-use Rattle.std.proofs.Common.{◌<◌, length, arith}
-use Rattle.affine_prog.specs.declared.Program.{Program}
+use Rattle.std.proofs.Common.{arith}
 use Rattle.analyser_core.proofs.NodeStates.{states_known}
-use Rattle.analyser_core.proofs.Telling.{all_counts, all_made, made_counts, made_more, made_rises, told_no_more, told_one}
+use Rattle.analyser_core.proofs.Telling.{made_counts, made_more, told_no_more, told_one}
 use Rattle.analyser_core.proofs.tell.told.Goals as goal
 use Rattle.analyser_core.proofs.tell.told.Goals.{then-node-count+in_ok-point+in_ok-push, else-node-count}
 

@@ -6,6 +6,6 @@ use Rattle.analyser_core.proofs.tell.told.Given as goal
 abbrev pub invariant-loop-node : goal.invariant-loop-node
 invariant-loop-node g l = record {
   made : AreMadeBelow l.program l.blocks l.fn.steps l.steps l.node;
-  kept : AreKept l.program l.node l.kept.items;
+  kept : AreKept l.program l.blocks.merging l.node l.kept.items;
   told : AreToldBelow l.program l.points l.tracked.names l.node l.told;
 }

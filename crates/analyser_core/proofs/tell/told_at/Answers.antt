@@ -1,5 +1,4 @@
-use Rattle.std.proofs.Common.{◌<◌, Contains, arith}
-use Rattle.row_modules.specs.Modules.{SameModule}
+use Rattle.std.proofs.Common.{Contains, arith}
 use Rattle.lead_basis.proofs.Laws.{turned}
 use Rattle.affine_prog.specs.Spans.{IsStateAt}
 use Rattle.analyser_core.proofs.PointsTold.{point_told, seen_there}

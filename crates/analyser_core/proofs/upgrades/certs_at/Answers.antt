@@ -1,16 +1,16 @@
-use Rattle.block_program.proofs.Lemmas.{formed, exits_alike}
+use Rattle.merged_heads.proofs.Lemmas.{formed, exits_alike}
 use Rattle.analyser_core.proofs.upgrades.certs_at.Goals as goal
 
 pub exits-requires : goal.exits-requires
 exits-requires g c =
     let b = c.requires.blocks in
-    rw c.small.ensures (formed c.args.program.now b.heads c.args.blocks.now.small c.requires.formed b.small)
+    rw c.small.ensures (formed c.args.program.now c.args.blocks.now.merging b.heads c.args.blocks.now.small c.requires.formed b.small)
 
 pub certify-requires-clause-exits : goal.certify-requires-clause-exits
 certify-requires-clause-exits g c =
     let b = c.requires.blocks in
     rw c.bases.ensures
-    (exits_alike c.args.program.now b.heads c.args.blocks.now.small c.requires.formed b.small c.in_ok-exits.exits
+    (exits_alike c.args.program.now c.args.blocks.now.merging b.heads c.args.blocks.now.small c.requires.formed b.small c.in_ok-exits.exits
     (rw c.small.ensures at c.in_ok-exits.ensures.exact))
 
 pub words_of-requires : goal.words_of-requires

@@ -1,7 +1,8 @@
 use Rattle.std.proofs.Common.{◌≡◌, ℕ, ◌<◌, ◌++◌, ◌-◌, ◌+◌, ap, ap₂, sym, ◌∙◌, arith, drop, slice_index_or, slice_index, length, List}
 use Rattle.affine_prog.specs.declared.Edge.{Edge}
 use Rattle.affine_prog.specs.declared.Assign.{Assign}
-use Rattle.block_program.specs.EdgesInto.{assigns_of, assigns_behind}
+use Rattle.merged_heads.specs.Merges.{assigns_of}
+use Rattle.block_program.specs.EdgesInto.{assigns_behind}
 use Rattle.block_program.proofs.Walking.{behind_drop}
 use Rattle.block_program.proofs.chain.assigns_along.Goals as goal
 

@@ -1,6 +1,6 @@
 use Rattle.std.proofs.Common.{take}
 use Rattle.std.specs.List.{AllZip}
-use Rattle.block_program.specs.BlockPrograms.{IsBlockProc}
+use Rattle.merged_heads.specs.BlockPrograms.{IsBlockProc}
 use Rattle.block_program.proofs.contraction.block_procs.Given as goal
 
 abbrev pub invariant-loop-proc : goal.invariant-loop-proc

@@ -1,6 +1,6 @@
 use Rattle.row_images.specs.States.{IsMatrixOf}
 use Rattle.row_images.proofs.Laws.{images_span}
-use Rattle.block_program.proofs.Imaged.{made_of_none, made_of_more}
+use Rattle.merged_heads.proofs.Lemmas.{made_of_none, made_of_more}
 use Rattle.block_program.proofs.pushes.all_images.Goals as goal
 
 pub loop-row-init : goal.loop-row-init

@@ -1,5 +1,5 @@
 use Rattle.std.proofs.Common.{Contains, take, subst}
-use Rattle.block_program.specs.Pushes.{CountsBases}
+use Rattle.merged_heads.specs.Pushes.{CountsBases}
 use Rattle.block_program.proofs.Building.{built_at, counted_at, counted_built}
 use Rattle.std.proofs.lemmas.List.{take_all}
 use Rattle.block_program.proofs.pushes.basis_of.Goals as goal

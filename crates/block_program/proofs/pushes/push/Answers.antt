@@ -6,7 +6,7 @@ use Rattle.map_modules.specs.Matrices.{apply}
 use Rattle.affine_prog.specs.declared.Assign.{Assign}
 use Rattle.row_images.specs.States.{Spans, IsMatrixOf}
 use Rattle.block_program.specs.Built.{IsBuilt}
-use Rattle.block_program.proofs.Imaged.{pushed_exactly, pushed_counts}
+use Rattle.merged_heads.proofs.Lemmas.{pushed_exactly, pushed_counts}
 use Rattle.block_program.proofs.pushes.push.Goals as goal
 
 -- the images, as they are read

@@ -1,14 +1,14 @@
 use Rattle.std.proofs.Common.{refl, arith}
 use Rattle.std.proofs.lemmas.Grind.{merely}
-use Rattle.block_program.proofs.Lemmas.{formed}
+use Rattle.merged_heads.proofs.Lemmas.{formed}
 use Rattle.narrow_words.proofs.PointsSoFar.{told_ascend, told_each, told_rows}
 use Rattle.narrow_words.proofs.analysis.report_by.Goals as goal
 
 pub exits-requires : goal.exits-requires
-exits-requires g c = let b = c.requires.blocks in rw c.small-small.ensures (formed c.args.program.now b.heads c.args.blocks.now.small c.requires.formed b.small)
+exits-requires g c = let b = c.requires.blocks in rw c.small-small.ensures (formed c.args.program.now c.args.blocks.now.merging b.heads c.args.blocks.now.small c.requires.formed b.small)
 
 pub reach_by_exits-requires-clause-formed : goal.reach_by_exits-requires-clause-formed
-reach_by_exits-requires-clause-formed g c = let b = c.requires.blocks in rw c.small-small.ensures (formed c.args.program.now b.heads c.args.blocks.now.small c.requires.formed b.small)
+reach_by_exits-requires-clause-formed g c = let b = c.requires.blocks in rw c.small-small.ensures (formed c.args.program.now c.args.blocks.now.merging b.heads c.args.blocks.now.small c.requires.formed b.small)
 
 pub narrow_points-requires-clause-reached : goal.narrow_points-requires-clause-reached
 narrow_points-requires-clause-reached g c = rw c.small-small.ensures at c.in_ok-reached.ensures.exact
@@ -24,11 +24,11 @@ invariant_of-result g c =
 pub returns : goal.returns
 returns g c =
     let b = c.requires.blocks in
-    let s = b.small in
+    let s = b.simple in
     record {
       program = c.args.program.now;
       lifted = c.requires.lifted;
-      few_heads = record { heads = b.heads; numbers = s.numbers; few = omega (arith, c.requires.few, s.nodes) };
+      few_heads = record { heads = s.simple; numbers = s.are; few = omega (arith, c.requires.few, s.counted) };
       is_report = record {
         names_are = refl;
         count = c.in_ok-points.ensures.count;

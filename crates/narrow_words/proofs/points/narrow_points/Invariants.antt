@@ -5,6 +5,6 @@ use Rattle.narrow_words.proofs.points.narrow_points.Given as goal
 
 abbrev pub invariant-loop-node : goal.invariant-loop-node
 invariant-loop-node g l = record {
-  kept : AreKept l.program l.node l.kept.items;
+  kept : AreKept l.program l.blocks.merging l.node l.kept.items;
   told : AreToldBelow l.program l.points l.tracked.names l.node l.told;
 }

@@ -11,4 +11,4 @@ returns c =
     let rows = c.rows-rows.ensures ∙ c.basis_at.ensures in
     both_ways (rw c.as_slice.ensures at c.all_vanish.ensures)
     (claim_tried program c.requires.formed blocks levels entries (are_row_lists 289 levels c.requires.level_bases) (are_row_lists 17 entries c.requires.entry_bases)
-    c.inner_nodes_follow.ensures.chains claim c.rows-rows.result.now (subst (HasStatesAt program blocks levels entries claim.node) (sym rows) (c.requires.states.at claim.node c.requires.node)))
+    c.merged_nodes_follow.ensures.unique claim c.rows-rows.result.now (subst (HasStatesAt program blocks levels entries claim.node) (sym rows) (c.requires.states.at claim.node c.requires.node)))

@@ -4,10 +4,11 @@ use Rattle.lead_basis.proofs.Laws.{basis_rows}
 use Rattle.affine_prog.specs.Programs.{owner_of}
 use Rattle.affine_prog.specs.Spans.{rows_at}
 use Rattle.affine_prog.proofs.Lemmas.{step_placed}
-use Rattle.block_program.specs.EdgesInto.{assigns_of}
+use Rattle.merged_heads.specs.Merges.{assigns_of}
+use Rattle.block_program.proofs.Lemmas.{step_read}
 use Rattle.proof_verify.specs.Points.{IsHeadBasis, HasStatesAt}
 use Rattle.proof_verify.proofs.Members.{are_row_lists}
-use Rattle.proof_verify.proofs.Placing.{step_read, at_a_head, behind_a_node}
+use Rattle.proof_verify.proofs.Placing.{at_a_head, behind_a_node}
 use Rattle.proof_verify.proofs.points.states_at.Goals as goal
 
 pub push-requires-clause-positions : goal.push-requires-clause-positions

@@ -1,6 +1,0 @@
-use Rattle.std.proofs.Common.{arith}
-use Rattle.analyser_core.proofs.Keeping.{marks_all}
-use Rattle.analyser_core.proofs.kept.followed.Goals as goal
-
-pub returns : goal.returns
-returns c = marks_all c.args.program.now c.loop-node.node c.loop-node.table.items (omega (arith, c.loop-node-test.false)) c.loop-node.invariant
